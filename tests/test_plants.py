@@ -162,6 +162,16 @@ class Told(unittest.TestCase):
     def test_a_proof_that_names_what_is_gone_is_none(self) -> None:
         self.assertEqual(self.of(BESIDE)[0], Outcome.NAMED)
 
+    def test_each_wording_of_a_name_that_is_gone_is_none(self) -> None:
+        for why in (
+            "`c.was` has no field `is`",
+            "`rows` is not in scope",
+            "record `Lts.After-read` (nearest: .in_err-read, .in_ok-read)",
+            "`goal.one`: module `Goals` has no `one` that can be named from here (names in it that begin alike: `ones`)",
+        ):
+            text = f"./proofs/shelf/beside/Answers.antt:9:5: error: `returns`: {why}\nfn {BESIDE}: not proved\n"
+            self.assertEqual(said.Said("box", text).of({BESIDE})[0], Outcome.NAMED, why)
+
     def test_a_lemma_that_falls_refuses_what_stands_on_it(self) -> None:
         law = "box::laws::one"
         fell = f"{law}, goal one, is not proved: a lemma that it stands on"

@@ -33,6 +33,8 @@ ROUND = 65_536
 # The blocks of the made captures, a few past the first round, and their size.
 COUNT, SIZE = ROUND + 5, 8
 GIVEN = ("0", "1")
+# Where a recording is judged.
+PLACES = (*ENDS, "between")
 # How many changed captures are drawn at each end by each number.
 DRAWN = 20
 FILE = random.Random(7440).randbytes(COUNT * SIZE - 1)
@@ -335,9 +337,9 @@ class Recordings(Checks):
         return [json.loads(line) for line in self.told(recording, "check", "--json", *words)[0].splitlines()]
 
     def test_accepted(self) -> None:
-        """At each end it is accepted by the number that it goes on with; by the other it is refused, and by none at the
-        first number that is too high, where it is told who judges such numbers."""
-        for given, end in itertools.product(GIVEN, ENDS):
+        """At each end, and between the two, it is accepted by the number that it goes on with; by the other it is refused,
+        and by none at the first number that is too high, where it is told who judges such numbers."""
+        for given, end in itertools.product(GIVEN, PLACES):
             recording = recorded(int(given))
             for words in (("--end", end, "--rollover", given), (f"--rollover={given}", f"--end={end}")):
                 output, errors, status = self.told(recording, "check", *words)
@@ -359,7 +361,7 @@ class Recordings(Checks):
     def test_changed(self) -> None:
         """A block that is changed behind the first round is refused in its frame, and its server accused, if no frame
         is missing."""
-        for given, end in itertools.product(GIVEN, ENDS):
+        for given, end in itertools.product(GIVEN, PLACES):
             recording, frame = changed(int(given), ROUND + 3)
             line, words = refusal(frame, Rule.BLOCK_CHANGED), ("--end", end, "--rollover", given)
             output, errors, status = self.told(recording, "check", *words)
@@ -386,7 +388,7 @@ class Recordings(Checks):
         """Of the examples, which have few blocks, the same is said by each number as by none, but for what stands."""
         told = 0
         for path in sorted((TOP / "examples").glob("*.pcap")):
-            for end, given in itertools.product(ENDS, GIVEN):
+            for end, given in itertools.product(PLACES, GIVEN):
                 alone = self.rows(path.read_bytes(), "--end", end)
                 rows = self.rows(path.read_bytes(), "--end", end, "--rollover", given)
                 wanted = [{**row, "stands": None, "rollover": int(given)} for row in alone]
@@ -395,12 +397,13 @@ class Recordings(Checks):
         self.check("some", told > 20, told)
 
     def test_words(self) -> None:
-        """The word is one of `check`, says 0 or 1, stands there once, and wants an end."""
-        recording, none = made.file_of(made.read("a", 40_000, 41_000)), "--rollover wants --end client or --end server"
+        """The word is one of `check`, says 0 or 1, stands there once, and wants a place."""
+        recording = made.file_of(made.read("a", 40_000, 41_000))
+        none = "--rollover wants --end client, --end server or --end between"
         for words, why in (
             (("check", "--rollover", "0"), none),
             (("check", "--rollover=1", "--json"), none),
-            (("check", "--end", "between", "--rollover", "0"), none),
+            (("check", "--end", "between", "--rollover", "2"), "2"),
             (("check", "--end", "client", "--rollover", "2"), "2"),
             (("check", "--end", "client", "--rollover="), "--rollover"),
             (("check", "--end", "client", "--rollover"), "--rollover"),

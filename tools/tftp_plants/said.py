@@ -14,7 +14,7 @@ LEMMA = re.compile(r"(?:\./)?proofs/(\S+)\.antt:\d+:\d+: error: `([^`]+)`: (.*)"
 STANDS_ON = re.compile(r"it stands on (.*), which antt refuses")
 # An error of a source's types or syntax: of a goal it would have the name.
 SOURCE = re.compile(r"(?:\./)?(?:src|specs)/\S+?:\d+:\d+: error(?:\[[^\]]*\])?: (?!`[^`]*`: )")
-NAMES = re.compile(r"has no field|is not in scope|has no `|was not admitted|is no name")
+NAMES = re.compile(r"has no field|is not in scope|has no `|was not admitted|is no name|\(nearest: |that begin alike: ")
 FAILED = re.compile(r"rattle: (?:error|no verdict)|error\[")
 ENDED = re.compile(r"(?:logic=|only=)\S+(?: .*)?")
 NOT_PROVED = "it is not proved that "

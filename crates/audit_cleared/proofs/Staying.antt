@@ -16,7 +16,7 @@ use Rattle.audit_spared.proofs.FinalityLemmas.Silent.{opened_has_number, silent_
 use Rattle.audit_views.specs.Parties.{host_name}
 use Rattle.audit_views.specs.Views.{captured, captured_at_client, captured_at_server, client_header, server_capture, server_header, way_at_server}
 use Rattle.audit_recording.specs.Audit.Audited.{placed_after}
-use Rattle.audit_recording.specs.Between.{IsBetweenVerdict, between_capture, passed_of, sides_of, sides_with}
+use Rattle.audit_recording.specs.Between.{IsBetweenFoundBy, between_capture, passed_of, sides_of, sides_with}
 use Rattle.audit_recording.specs.Blame.Facts.{IsRefusedAt}
 use Rattle.audit_recording.specs.Blame.Frames.{Carried, Framed, datagrams_of, framed, framed_after, is_seen, numbered, view_of, whole_of}
 use Rattle.audit_recording.specs.declared.rows.row.Point.{Point}
@@ -99,8 +99,8 @@ refused_on o x before after final Server number rule is =
 refused_on o x before after final Between number rule is = (
   subst (λ s. AreApart (sides_with x s)) (sym final.who) is.0,
   is.1,
-  subst (λ s. IsBetweenVerdict (sides_with x s) (between_capture x after) (Err (tap.Unlawful number rule is.1))) (sym final.who)
-      (subst (λ v. IsBetweenVerdict (sides_of x before) (map (λ p. passed_of p.datagram) v) (Err (tap.Unlawful number rule is.1))) (sym final.client) is.2),
+  subst (λ s. IsBetweenFoundBy o (sides_with x s) (between_capture x after) (Err (tap.Unlawful number rule is.1))) (sym final.who)
+      (subst (λ v. IsBetweenFoundBy o (sides_of x before) (map (λ p. passed_of p.datagram) v) (Err (tap.Unlawful number rule is.1))) (sym final.client) is.2),
 )
 
 pub stays : (o : Option Rollover) (named : List ℕ) (carried later : List Carried) (n : ℕ) (point : Point) (number : ℕ) (rule : Rule) (frame : ℕ) (a : IsAccusation o named carried n point number rule frame)

@@ -1,3 +1,4 @@
+pub mod Numbering
 pub mod Tapping
 pub mod Sides
 pub mod Settling

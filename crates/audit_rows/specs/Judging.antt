@@ -54,7 +54,7 @@ pub record IsJudgedOf (j : Judged) (judging : Judging) (x : Transfer) (named : L
   pub at_between : is_some j.between ≡ (points_of judging x).between
   pub client : IfSome j.client (IsViewBy (rollover_of judging) point.Client x named carried)
   pub server : IfSome j.server (IsViewBy (rollover_of judging) point.Server x named carried)
-  pub between : AreApart (sides_of x (whole_of named carried)) → IfSome j.between (IsViewBy None point.Between x named carried)
+  pub between : AreApart (sides_of x (whole_of named carried)) → IfSome j.between (IsViewBy (rollover_of judging) point.Between x named carried)
 
 -- What is known to be refused at a point is told there, whatever memory there is.
 pub record AreRefusalsKept (judges : Judges) (j : Judged) : Type 0 where

@@ -11,7 +11,7 @@ use Rattle.audit_flows.specs.Lines.{Placed, same_endpoint}
 use Rattle.audit_flows.specs.{Transfer}
 use Rattle.audit_views.specs.Parties.{host_name}
 use Rattle.audit_views.specs.Views.{IsFoundBy, client_capture, client_header, server_capture, server_header}
-use Rattle.audit_recording.specs.Between.{IsBetweenVerdict, between_capture, sides_of}
+use Rattle.audit_recording.specs.Between.{IsBetweenFoundBy, between_capture, sides_of}
 use Rattle.audit_recording.specs.Blame.Facts.{blamed_as, refused_between, refused_in}
 use Rattle.audit_recording.specs.Blame.Frames.{Carried, whole_of}
 use Rattle.audit_recording.specs.Rows.Told.{said_between, said_of}
@@ -119,11 +119,11 @@ abbrev pub number_in : Found → Option ℕ
 number_in (AtEnd found) = refused_in found
 number_in (Between found) = refused_between found
 
--- It is the verdict on what the point saw of the whole recording, at an end by what comes after block 65535.
+-- It is the verdict on what the point saw of the whole recording, by what comes after block 65535.
 abbrev pub IsFoundAt : Option Rollover → Point → Transfer → List Placed → Found → Type 0
 IsFoundAt rollover point.Client x whole (AtEnd found) = IsFoundBy rollover (client_header x) (client_capture host_name x whole) found
 IsFoundAt rollover point.Server x whole (AtEnd found) = IsFoundBy rollover (server_header x) (server_capture host_name x whole whole) found
-IsFoundAt rollover point.Between x whole (Between found) = IsBetweenVerdict (sides_of x whole) (between_capture x whole) found
+IsFoundAt rollover point.Between x whole (Between found) = IsBetweenFoundBy rollover (sides_of x whole) (between_capture x whole) found
 IsFoundAt rollover _ x whole _ = ⊥
 
 -- And the blamed datagram is the one of the refusal's number among those that were seen there: its frame, its source, its facts.

@@ -79,7 +79,7 @@ impl Judged {
         Judged {
             client: Viewed::at_client(&trail, judging, client),
             server: Viewed::at_server(&trail, judging, server),
-            between: Viewed::between(&trail, between),
+            between: Viewed::between(&trail, judging, between),
             trail,
             doubted,
             until: now,

@@ -2,12 +2,11 @@
 
 ghost use Rattle.std.specs.Prelude.{◌≡◌, ℕ, List, IfSome, None, is_some, option_map};
 ghost use Rattle.audit_flows.specs.{Transfer};
-ghost use Rattle.audit_recording.specs.Between.{IsBetweenVerdict, between_capture, sides_of};
+ghost use Rattle.audit_recording.specs.Between.{IsBetweenFoundBy, between_capture, sides_of};
 ghost use Rattle.audit_recording.specs.Blame.Frames.{Carried, whole_of};
 ghost use Rattle.audit_recording.specs.Blame.Kept.{IsTrailBetween, IsTrailOf};
 ghost use Rattle.audit_recording.specs.Judges.Points.{points_of, rollover_of};
 ghost use Rattle.audit_recording.specs.Rows.Told.{refused_frame, status_of};
-ghost use Rattle.audit_recording.specs.declared.judges.judging.Judging.{Judging as JudgingKind};
 ghost use Rattle.audit_recording.specs.declared.rows.row.Point.{Point as PointKind};
 ghost use Rattle.audit_rows.specs.Viewing.{IsViewBy, found_in, said_in};
 ghost use Rattle.audit_rows.specs.declared.found.Found.TheVariants as Found;
@@ -29,7 +28,7 @@ pub struct Viewed {
     pub found: Found,
     /// The datagram that is refused, where one is.
     pub blamed: Option<Blamed>,
-    /// What comes after block 65535, where anything does: at an end the numbers were read so.
+    /// What comes after block 65535, where anything does: the numbers were read so.
     pub rollover: Option<Rollover>,
 }
 
@@ -98,21 +97,26 @@ impl Viewed {
     }
 
     /// Between its ends.
-    pub(crate) fn between(trail: &Trail, found: Option<Result<Meaning, TapRefusal>>) -> Option<Self>
+    pub(crate) fn between(
+        trail: &Trail,
+        judging: Judging,
+        found: Option<Result<Meaning, TapRefusal>>,
+    ) -> Option<Self>
         ensures found { found_in result ≡ option_map (λ it. Found.Between it) found }
-        ensures is { (judging : JudgingKind) (x : Transfer) (named : List ℕ) (carried : List Carried) → IsTrailOf trail.now judging x named carried
+        ensures is { (x : Transfer) (named : List ℕ) (carried : List Carried) → IsTrailOf trail.now judging x named carried
             → IsTrailBetween trail.now judging x named carried → is_some found ≡ (points_of judging x).between
             → AreApart (sides_of x (whole_of named carried))
-            → IfSome found (IsBetweenVerdict (sides_of x (whole_of named carried)) (between_capture x (whole_of named carried)))
-            → IfSome result (IsViewBy None PointKind.Between x named carried) }
+            → IfSome found (IsBetweenFoundBy (rollover_of judging) (sides_of x (whole_of named carried)) (between_capture x (whole_of named carried)))
+            → IfSome result (IsViewBy (rollover_of judging) PointKind.Between x named carried) }
     {
         match found {
             Some(found) => {
                 let blamed = trail.between(&found);
+                let (found, rollover) = (Found::Between(found), judging.rollover());
                 Some(Viewed {
-                    found: Found::Between(found),
+                    found,
                     blamed,
-                    rollover: None,
+                    rollover,
                 })
             }
             None => None,

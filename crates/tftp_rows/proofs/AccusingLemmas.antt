@@ -1,17 +1,20 @@
 -- A row of a recording accuses as what was seen at its place does.
-use Rattle.std.proofs.Common.{◌≡◌, ◌&&◌, ℕ, Bool, true, false, List, [], ◌∷◌, ◌++◌, Contains, Option, Some, None, ◌⊎◌, inl, inr, refl, ap, subst, ◌∙◌}
+use Rattle.std.proofs.Common.{◌≡◌, ◌&&◌, ℕ, Bool, true, false, List, [], ◌∷◌, ◌++◌, Contains, Option, Some, None, ◌⊎◌, inl, inr, refl, sym, ap, subst, true≢false, ◌∙◌}
 use Rattle.std.specs.List.{AllByRecursion}
 use Rattle.std.specs.Prelude.{IfSome, is_some, if◌then◌else◌}
 use Rattle.tftp_packet.specs.{Rollover}
 use Rattle.law_model.proofs.ModelLemmas.Members.{contains_cases, contains_none}
+use Rattle.law_tap.specs.{AreApart}
 use Rattle.audit_flows.specs.{Endpoint, Transfer}
 use Rattle.audit_recording.specs.{Telling as Said}
+use Rattle.audit_recording.specs.Between.{sides_of}
 use Rattle.audit_recording.specs.Blame.Frames.{Carried, whole_of}
 use Rattle.audit_recording.specs.Judges.{opened}
-use Rattle.audit_recording.specs.Judges.Points.{rollover_of}
+use Rattle.audit_recording.specs.Judges.Points.{points_of, rollover_of}
 use Rattle.audit_recording.specs.Rows.Told.{between_told, both_row, ends_told, is_told_at_ends, plain_row, row_of, rows_told}
 use Rattle.audit_recording.specs.declared.blame.doubted.Doubted.{Doubted}
 use Rattle.audit_recording.specs.declared.judges.judging.Judging.{Judging}
+use Rattle.audit_recording.specs.declared.judges.judging.Judging.TheVariants.{BetweenBy, ClientBy, ServerBy}
 use Rattle.audit_recording.specs.declared.rows.row.Place.{Place}
 use Rattle.audit_recording.specs.declared.rows.row.Point.{Point}
 use Rattle.audit_recording.specs.declared.rows.row.Point.TheVariants as point
@@ -150,16 +153,32 @@ module _ (judging : Judging) (carried : List Carried) where
       servers_clear clients clear name older rest,
     )
 
-  pub between_clear : (clients : List Endpoint) → ((x : Transfer) (v : Viewed) → Contains clients x.client → IsServerKnown x carried v → IsClear point.Between x v)
+  -- what is found between the ends is by none, unless it is judged there by a rollover
+  module _ (plain : (rollover : Rollover) → judging ≡ BetweenBy rollover → ⊥) (x : Transfer) (j : Judged) (v : Viewed) (of : IsJudgedOf j judging x [] carried) (apart : AreApart (sides_of x (whole_of [] carried))) (is : j.between ≡ Some v) where
+    not_there : (k : Judging) → judging ≡ k → (points_of k x).between ≡ false → ⊥
+    not_there k same none = true≢false (sym (ap is_some is) ∙ of.at_between ∙ ap (λ k. (points_of k x).between) same ∙ none)
+
+    by_none : IsViewBy None point.Between x [] carried v
+    by_none = by judging refl where
+      found : IsViewBy (rollover_of judging) point.Between x [] carried v
+      found = on_some (IsViewBy (rollover_of judging) point.Between x [] carried) j.between v (of.between apart) is
+
+      by : (k : Judging) → judging ≡ k → IsViewBy None point.Between x [] carried v
+      by (ClientBy r) same = absurd (not_there (ClientBy r) same refl)
+      by (ServerBy r) same = absurd (not_there (ServerBy r) same refl)
+      by (BetweenBy r) same = absurd (plain r same)
+      by _ same = subst (λ (o : Option Rollover). IsViewBy o point.Between x [] carried v) (ap rollover_of same) found
+
+  pub between_clear : ((rollover : Rollover) → judging ≡ BetweenBy rollover → ⊥) → (clients : List Endpoint) → ((x : Transfer) (v : Viewed) → Contains clients x.client → IsServerKnown x carried v → IsClear point.Between x v)
       → (name : List ℕ) (tellings : List Telling) → AreOf name judging [] carried tellings → AccuseNobodyBetween clients carried tellings
-  between_clear clients clear name [] of = tt
-  between_clear clients clear name (t ∷ older) (opens, of, rows, rest) = (
+  between_clear plain clients clear name [] of = tt
+  between_clear plain clients clear name (t ∷ older) (opens, of, rows, rest) = (
     λ is_client apart known. rows_clear IsBetween point.Between between_point name (counted (t ∷ older)) t opens of rows
         (λ v is. (
-          on_some (IsViewBy None point.Between t.transfer [] carried) t.judged.between v (of.between apart) is,
+          by_none plain t.transfer t.judged v of apart is,
           clear t.transfer v is_client (on_some (IsServerKnown t.transfer carried) t.judged.between v known is),
         )),
-    between_clear clients clear name older rest,
+    between_clear plain clients clear name older rest,
   )
 
 -- what was lost makes none accuse

@@ -13,7 +13,7 @@ use Rattle.audit_spared.proofs.FinalityLemmas.Silent.{silent_is_final}
 use Rattle.audit_views.specs.Parties.{host_name}
 use Rattle.audit_views.specs.Views.{IsFoundBy, captured, captured_at_client, captured_at_server, client_header, server_capture, server_header, way_at_server}
 use Rattle.audit_recording.specs.Audit.Audited.{placed_after}
-use Rattle.audit_recording.specs.Between.{IsBetweenVerdict, between_capture, passed_of, sides_of, sides_with}
+use Rattle.audit_recording.specs.Between.{IsBetweenFoundBy, between_capture, passed_of, sides_of, sides_with}
 use Rattle.audit_recording.specs.Blame.Facts.{blamed_as, blamed_of}
 use Rattle.audit_recording.specs.Blame.Frames.{Carried, Framed, datagrams_of, framed, framed_after, is_seen, numbered, view_of, whole_of}
 use Rattle.audit_recording.specs.Blame.Kept.{IsTrailOf, sent_of}
@@ -79,8 +79,8 @@ found_on o x before after final point.Server (AtEnd found) is =
     ∙ ap (map (captured_at_server host_name x before)) final.server in
     subst (λ c. IsFoundBy o (server_header x) c found) (sym same) is
 found_on o x before after final point.Between (Between found) is =
-    subst (λ s. IsBetweenVerdict (sides_with x s) (between_capture x after) found) (sym final.who)
-    (subst (λ v. IsBetweenVerdict (sides_of x before) (map (λ p. passed_of p.datagram) v) found) (sym final.client) is)
+    subst (λ s. IsBetweenFoundBy o (sides_with x s) (between_capture x after) found) (sym final.who)
+    (subst (λ v. IsBetweenFoundBy o (sides_of x before) (map (λ p. passed_of p.datagram) v) found) (sym final.client) is)
 found_on o x before after final point.Client (Between found) is = absurd is
 found_on o x before after final point.Server (Between found) is = absurd is
 found_on o x before after final point.Between (AtEnd found) is = absurd is
@@ -180,7 +180,8 @@ module _ (named : List ℕ) (carried : List Carried) (x : Transfer) (opens : ope
         (viewed_by (rollover_of judging) point.Client later) was.client;
     server = if_so (IsViewBy (rollover_of judging) point.Server x named carried) (IsViewBy (rollover_of judging) point.Server x named (later ++ carried)) j.server
         (viewed_by (rollover_of judging) point.Server later) was.server;
-    between = λ apart. if_so (IsViewBy None point.Between x named carried) (IsViewBy None point.Between x named (later ++ carried)) j.between (viewed_by None point.Between later)
+    between = λ apart. if_so (IsViewBy (rollover_of judging) point.Between x named carried) (IsViewBy (rollover_of judging) point.Between x named (later ++ carried)) j.between
+        (viewed_by (rollover_of judging) point.Between later)
         (was.between (subst (λ s. AreApart (sides_with x s)) (final later).who apart));
   }
 

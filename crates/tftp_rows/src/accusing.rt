@@ -1,6 +1,7 @@
 //! No row of a recording accuses where ends are lawful. Each law is the contract of a function that does nothing.
 
-ghost use Rattle.std.specs.Prelude.{◌≡◌, [], ℕ, All, Bool, Contains, List, None, Option};
+ghost use Rattle.std.specs.Prelude.{◌≡◌, ◌≢◌, [], ℕ, All, Bool, Contains, List, None, Option};
+ghost use Rattle.tftp_packet.specs.{Rollover};
 ghost use Rattle.audit_flows.specs.Lines.{Recorded};
 ghost use Rattle.audit_flows.specs.{Address, Endpoint};
 ghost use Rattle.audit_spared.specs.Spared.{AreInterleaved, AreServed, AreStrayed, IsServedCapture};
@@ -25,7 +26,7 @@ use std::io::Write;
 /// What `check` prints of a recording accuses no lawful end, at an end. Where captures of lawful transfers follow one another at some clients,
 /// no row that tells of such a client accuses anybody, though strays come to it; and where they do so between the clients and the server's
 /// host, no row that tells of the server. Nor does a row of what passed between such a client and its server, where it was known by the refused
-/// datagram who the server is. What the recorder lost makes no row accuse.
+/// datagram who the server is, and numbers do not begin again. What the recorder lost makes no row accuse.
 pub fn no_printed_row_accuses_where_ends_are_lawful<W: Write + Drop>()
     ensures clients { (begun now : TellerKind W) (file : Option (List ℕ)) (judging : JudgingKind) (notes : NotesKind) (clients : List Endpoint)
         → (told : IsRecordingTold W.Write.contents begun now file judging [] notes)
@@ -38,6 +39,7 @@ pub fn no_printed_row_accuses_where_ends_are_lawful<W: Write + Drop>()
         → rollover_of judging ≡ None → AreServed (IsServedCapture host_name) host_name host clients (datagrams_of told.carried) → AccuseNobody IsOfServer clients told.tellings }
     ensures between { (begun now : TellerKind W) (file : Option (List ℕ)) (judging : JudgingKind) (notes : NotesKind) (clients : List Endpoint)
         → (told : IsRecordingTold W.Write.contents begun now file judging [] notes)
+        → ((rollover : Rollover) → judging ≢ JudgingKind.BetweenBy rollover)
         → AreInterleaved host_name clients (datagrams_of told.carried) → All HasAddresses (datagrams_of told.carried) → AccuseNobodyBetween clients told.carried told.tellings }
     ensures lost { (dropped : ℕ) (row last : RowKind) → IsRowWith dropped row last → row.charge.accused ≡ None → last.charge.accused ≡ None }
 {

@@ -38,7 +38,8 @@ fn judging_at(point: Option<Point>, rollover: Option<Rollover>) -> Judging
         (Some(Point::Client), Some(rollover)) => Judging::ClientBy(rollover),
         (Some(Point::Server), None) => Judging::Server,
         (Some(Point::Server), Some(rollover)) => Judging::ServerBy(rollover),
-        (Some(Point::Between), _) => Judging::Between,
+        (Some(Point::Between), None) => Judging::Between,
+        (Some(Point::Between), Some(rollover)) => Judging::BetweenBy(rollover),
         (None, _) => Judging::WhereRecorded,
     }
 }

@@ -16,11 +16,10 @@ pub data Asked : Type 0 where
   AllWritten : (end : End) (services : List ℕ) (file : Word) → Asked
   Judged : (at : Option Point) (rollover : Option Rollover) (services : List ℕ) (json : Bool) (files : List Word) → Asked
 
--- Numbers that begin again after block 65535 are judged at an end alone: between the ends it is not known what each has seen.
+-- Numbers that begin again after block 65535 are judged where it is said where the recording was made: at an end, or between the two.
 abbrev pub IsJudgedAt : Option Rollover → Option Point → Type 0
 IsJudgedAt None at = ⊤
-IsJudgedAt (Some rollover) (Some point.Client) = ⊤
-IsJudgedAt (Some rollover) (Some point.Server) = ⊤
+IsJudgedAt (Some rollover) (Some at) = ⊤
 IsJudgedAt _ _ = ⊥
 
 -- the parts are the arguments of what is asked

@@ -29,7 +29,7 @@ pub struct Given<'a> {
 pub enum ReadFault {
     /// They say nothing that the program can be asked for.
     Unknown,
-    /// They say what comes after block 65535, and no end at which numbers are judged so.
+    /// They say what comes after block 65535, and no point at which numbers are judged so.
     NoEnd,
     /// Memory was refused.
     Memory,

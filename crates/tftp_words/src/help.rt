@@ -85,8 +85,7 @@ fn point<'a>(alloc: Global) -> Arg<'a> {
     args::option(alloc, "end", "END", POINT).value_parser(POINTS.as_slice())
 }
 
-const ROLLOVER: &str =
-    "Block numbers begin again with this after 65535; with --end client or --end server";
+const ROLLOVER: &str = "Block numbers begin again with this after 65535; wants --end";
 
 fn rollover<'a>(alloc: Global) -> Arg<'a> {
     args::option(alloc, "rollover", "NUMBER", ROLLOVER).value_parser(ROLLOVERS.as_slice())

@@ -64,7 +64,7 @@ pub struct TextsRequest<'a> {
 pub struct CheckRequest<'a> {
     /// Where the recordings were made, if that is said.
     pub end: Option<Point>,
-    /// What comes after block 65535, if that is said: there is an end then.
+    /// What comes after block 65535, if that is said: there is a point then.
     pub rollover: Option<Rollover>,
     /// The ports that were named, to which requests go as they do to 69.
     pub services: Vec<u16>,
@@ -99,13 +99,13 @@ fn command_of(word: &str) -> Option<(Command, usize)>
     }
 }
 
-/// Whether numbers may be judged there by what comes after block 65535: at an end alone.
+/// Whether numbers may be judged there by what comes after block 65535: where a point is named.
 fn is_judged_at(rollover: Option<Rollover>, at: Option<Point>) -> bool
     ensures { IsTrue result ↔ IsJudgedAt rollover at }
 {
     match (rollover, at) {
-        (None, _) | (Some(_), Some(Point::Client | Point::Server)) => true,
-        _ => false,
+        (None, _) | (Some(_), Some(_)) => true,
+        (Some(_), None) => false,
     }
 }
 

@@ -27,7 +27,7 @@ pub enum WordsFault {
 
 const NO_REQUEST: &str = "the words make no request";
 
-const NO_END: &str = "--rollover wants --end client or --end server";
+const NO_END: &str = "--rollover wants --end client, --end server or --end between";
 
 /// The request that the words of a command line make, the first of which is the program's name.
 pub fn request_of<'a, S: AsStr>(alloc: Global, words: &'a [S]) -> Result<Request<'a>, WordsFault>

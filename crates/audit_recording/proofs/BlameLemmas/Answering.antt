@@ -10,7 +10,7 @@ use Rattle.judge_tap.specs.declared.refusal.TapRefusal.TheVariants as tap
 use Rattle.audit_flows.specs.{Transfer}
 use Rattle.audit_views.specs.Parties.{host_name}
 use Rattle.audit_views.specs.Views.{IsFoundBy, client_capture, client_header, server_capture, server_header}
-use Rattle.audit_recording.specs.Between.{IsBetweenVerdict, between_capture, sides_of}
+use Rattle.audit_recording.specs.Between.{IsBetweenFoundBy, between_capture, sides_of}
 use Rattle.audit_recording.specs.Judges.{points_of, rollover_of}
 use Rattle.audit_recording.specs.Blame.Facts.{blamed_as, refused_between, refused_in}
 use Rattle.audit_recording.specs.Blame.Frames.{Carried, framed, whole_of}
@@ -65,10 +65,10 @@ module _ (t : Trail) (judging : Judging) (x : Transfer) (named : List ℕ) (carr
       finds ((was.blame.server there).enough [] number at.rule said.verdict) ∙ ap (blamed_as point.Server x named carried) (sym is)
 
   pub blamed_between : (v : Result Meaning TapRefusal) → refused_between v ≡ Some number → IsTrailBetween t judging x named carried → (points_of judging x).between ≡ true → AreApart (sides_of x (whole_of named carried))
-      → IsBetweenVerdict (sides_of x (whole_of named carried)) (between_capture x (whole_of named carried)) v
+      → IsBetweenFoundBy (rollover_of judging) (sides_of x (whole_of named carried)) (between_capture x (whole_of named carried)) v
       → (IsHeld t.blame.between number → result ≡ blamed_in point.Between x (whole_of named carried) (framed named carried) number)
       → result ≡ blamed_as point.Between x named carried (refused_between v)
   blamed_between v is passed there apart judged finds =
       let at = between_by v number is in
-      let said = subst (IsBetweenVerdict (sides_of x (whole_of named carried)) (between_capture x (whole_of named carried))) at.is judged in
+      let said = subst (IsBetweenFoundBy (rollover_of judging) (sides_of x (whole_of named carried)) (between_capture x (whole_of named carried))) at.is judged in
       finds ((passed there).enough [] number at.rule (apart, at.stands, said)) ∙ ap (blamed_as point.Between x named carried) (sym is)

@@ -21,9 +21,10 @@ use Rattle.audit_views.specs.Views.{Client, HasJudged, HasJudgedBy, IsClientAfte
 use Rattle.audit_views.specs.Views.Kept.{has_refused}
 use Rattle.audit_views.proofs.ViewsLemmas.Judging.{finished, holds_of, said_by, stands_for}
 use Rattle.audit_views.proofs.ViewsLemmas.Settling.{at_server_stays, capture_stays}
-use Rattle.audit_recording.specs.Between.{Between, BetweenBy, HasTapped, IsBetweenAfter, IsJudgedIfApart, IsTapRefusedIn, PassedBy, TappedBy, View as Tap, are_apart, between_capture, passed_of, sides_of}
+use Rattle.audit_recording.specs.Between.{Between, BetweenBy, HasTapped, HasTappedBy, HoldsBetween, IsBetweenAfterBy, IsBetweenVerdict, IsJudgedIfApart, IsTapRefusedIn, PassedBy, TappedBy, View as Tap, are_apart, between_capture, passed_of, sides_by, sides_of}
 use Rattle.audit_recording.specs.Between.Kept.{counted_by, given_to, has_refused as has_refused_between, refused_by}
-use Rattle.audit_recording.proofs.BetweenLemmas.Holding.{given_by}
+use Rattle.audit_recording.proofs.BetweenLemmas.Holding.{are_sides_apart, given_by}
+use Rattle.audit_recording.proofs.BetweenLemmas.Numbering.{AreTakenBetween, between_front, between_length, between_one, of_taken, taken_of, taken_there}
 use Rattle.audit_recording.proofs.BetweenLemmas.Settling.{sides_stay}
 use Rattle.audit_recording.proofs.BetweenLemmas.Sides.{not_apart}
 use Rattle.tftp_packet.specs.Hosts.{same_peer}
@@ -258,23 +259,36 @@ between_more x more whole =
     ap (map (λ p. passed_of p.datagram)) (filter-append (is_of x.number) more whole)
     ∙ map-append (λ p. passed_of p.datagram) (client_view x.number more) (client_view x.number whole)
 
-between_first : (rollover : Option Rollover) (x : Transfer) (more whole : List Placed) (number : ℕ) (rule : Rule) → is_settled x.number whole ≡ true → IsRefusedAt rollover point.Between x (more ++ whole) number rule
-    → IsFirst (BreaksNoTapRule (sides_of x whole)) (between_capture x more ++ between_capture x whole) number
-between_first rollover x more whole number rule settled said =
-    subst (λ (s : TapSides). IsFirst (BreaksNoTapRule s) (between_capture x more ++ between_capture x whole) number) (sides_stay x more whole settled)
-    (subst (λ l. IsFirst (BreaksNoTapRule (sides_of x (more ++ whole))) l number) (between_more x more whole)
-    (first_between (sides_of x (more ++ whole)) (between_capture x (more ++ whole)) number rule said.1 said.2))
+abbrev refuses_so : ℕ → Rule → Option Bool → TapSides → List TapDatagram → Type 0
+refuses_so number rule stands k taken = IsBetweenVerdict k taken (Err (tap.Unlawful number rule stands))
+
+-- the refused one is the first of what the later and these are taken for
+between_first : (rollover : Option Rollover) (x : Transfer) (more whole : List Placed) (taken : List TapDatagram) (number : ℕ) (rule : Rule) → is_settled x.number whole ≡ true
+    → AreTakenBetween rollover (sides_of x whole) (between_capture x whole) taken → IsRefusedAt rollover point.Between x (more ++ whole) number rule
+    → (later : List TapDatagram) × IsFirst (BreaksNoTapRule (sides_by rollover (sides_of x whole))) (later ++ taken) number
+between_first rollover x more whole taken number rule settled are (apart, stands, said) =
+    let s : TapSides = sides_of x whole in
+    let k : TapSides = sides_by rollover s in
+    let given : List TapDatagram = between_capture x whole in
+    let found : HoldsBetween rollover (refuses_so number rule stands) s (between_capture x more ++ given) =
+    subst (λ (s : TapSides). HoldsBetween rollover (refuses_so number rule stands) s (between_capture x more ++ given)) (sides_stay x more whole settled)
+    (subst (λ l. HoldsBetween rollover (refuses_so number rule stands) (sides_of x (more ++ whole)) l) (between_more x more whole) said) in
+    let (all, all_are, at) = taken_of rollover (refuses_so number rule stands) s (between_capture x more ++ given) refl found in
+    let (later, rest, split, front) = between_front rollover s (between_capture x more) given all all_are in (
+      later,
+      subst (λ l. IsFirst (BreaksNoTapRule k) l number) (split ∙ ap (λ l. later ++ l) (between_one rollover s given rest taken front are)) (first_between k all number rule stands at),
+    )
 
 -- the judge of the sides was given all that passed
-record IsTapping (v : Tap) (x : Transfer) (whole : List Placed) : Type 0 where
+record IsTapping (rollover : Option Rollover) (v : Tap) (x : Transfer) (whole : List Placed) : Type 0 where
   pub between : Between
   pub is : v.judge ≡ Some between
-  pub sides : between.sides ≡ sides_of x whole
+  pub sides : between.sides ≡ sides_by rollover (sides_of x whole)
   pub passed : PassedBy between.judge between (between_capture x whole)
 
-tapping : (v : Tap) (whole : List Placed) → is_settled v.transfer.number whole ≡ true → IsBetweenAfter v whole → IsTapping v v.transfer whole
-tapping v whole settled = by v.judge refl where
-  by : (o : Option Between) → v.judge ≡ o → BetweenBy o v whole → IsTapping v v.transfer whole
+tapping : (rollover : Option Rollover) (v : Tap) (whole : List Placed) → is_settled v.transfer.number whole ≡ true → IsBetweenAfterBy rollover v whole → IsTapping rollover v v.transfer whole
+tapping rollover v whole settled = by v.judge refl where
+  by : (o : Option Between) → v.judge ≡ o → BetweenBy rollover o v whole → IsTapping rollover v v.transfer whole
   by None none waits = absurd (true≢false (sym settled ∙ waits.unsettled))
   by (Some b) is going = record { between = b; is = is; sides = going.sides; passed = going.passed }
 
@@ -288,18 +302,31 @@ is_apart s e =
     let both = neither (same_peer s.client s.server) (same_peer s.client s.asked) e in
     record { server = λ same. true≢false (sym (same_is s.client s.server same) ∙ both.0); asked = λ same. true≢false (sym (same_is s.client s.asked same) ∙ both.1) }
 
-module _ (rollover : Option Rollover) (x : Transfer) (whole : List Placed) (settled : is_settled x.number whole ≡ true) (b : Between) (sides : b.sides ≡ sides_of x whole) (one : IsJudgedIfApart b) where
+module _ (rollover : Option Rollover) (x : Transfer) (whole : List Placed) (settled : is_settled x.number whole ≡ true) (b : Between) (sides : b.sides ≡ sides_by rollover (sides_of x whole)) (one : IsJudgedIfApart b) where
+  abbrev own_sides : TapSides
+  own_sides = sides_by rollover (sides_of x whole)
+
+  abbrev given_all : List TapDatagram
+  given_all = between_capture x whole
+
   -- where there is no judge, nothing is said
   nothing_said : b.judge ≡ None → (more : List Placed) (number : ℕ) (rule : Rule) → IsRefusedAt rollover point.Between x (more ++ whole) number rule → ⊥
   nothing_said none more number rule said =
-      not_apart b.sides (sym one ∙ ap is_some none) (subst AreApart (sides_stay x more whole settled ∙ sym sides) said.0)
+      not_apart b.sides (sym one ∙ ap is_some none)
+      (subst AreApart (sym sides) (are_sides_apart rollover (sides_of x whole) (subst AreApart (sides_stay x more whole settled) said.0)))
 
-  tap_accepts : PassedBy b.judge b (between_capture x whole) → refused_by b ≡ None → Accepts rollover point.Between x whole (counted_by b)
+  -- what the judge has of what the datagrams are taken for
+  tapped_there : (j : TapJudge) → b.judge ≡ Some j → PassedBy b.judge b given_all → (taken : List TapDatagram) × AreTakenBetween rollover (sides_of x whole) given_all taken × HasTapped j own_sides taken
+  tapped_there j is passed =
+      taken_there rollover (HasTapped j) (sides_of x whole) given_all
+      (subst (λ (s : TapSides). HasTappedBy s.rollover j s given_all) sides (subst (λ o. PassedBy o b given_all) is passed))
+
+  tap_accepts : PassedBy b.judge b given_all → refused_by b ≡ None → Accepts rollover point.Between x whole (counted_by b)
   tap_accepts passed clear = by b.judge refl where
     by : (o : Option TapJudge) → b.judge ≡ o → Accepts rollover point.Between x whole (counted_by b)
     by None none =
         let counted : counted_by b ≡ b.counted = rw none refl in
-        let all : b.counted ≡ length (between_capture x whole) = subst (λ o. PassedBy o b (between_capture x whole)) none passed in
+        let all : b.counted ≡ length given_all = subst (λ o. PassedBy o b given_all) none passed in
         record {
           fixed = λ more p. refl;
           all = counted ∙ all ∙ length-map (client_view x.number whole) (λ p. passed_of p.datagram);
@@ -308,18 +335,18 @@ module _ (rollover : Option Rollover) (x : Transfer) (whole : List Placed) (sett
     by (Some j) is =
         let counted : counted_by b ≡ j.fed = rw is refl in
         let refuses : refused_by b ≡ j.refused = rw is refl in
-        let tapped : HasTapped j b.sides (between_capture x whole) = subst (λ o. PassedBy o b (between_capture x whole)) is passed in
-        let after : IsTapJudge j b.sides (between_capture x whole) = subst (λ o. TappedBy o j b.sides (between_capture x whole)) (sym refuses ∙ clear) tapped in
+        let (taken, are, has) = tapped_there j is passed in
+        let after : IsTapJudge j own_sides taken = subst (λ o. TappedBy o j own_sides taken) (sym refuses ∙ clear) has in
         record {
           fixed = λ more p. refl;
-          all = counted ∙ after.fed ∙ length-map (client_view x.number whole) (λ p. passed_of p.datagram);
+          all = counted ∙ after.fed ∙ between_length rollover (sides_of x whole) given_all taken are ∙ length-map (client_view x.number whole) (λ p. passed_of p.datagram);
           none = λ more number rule said.
+              let (later, first) = between_first rollover x more whole taken number rule settled are said in
               subst (λ n. n < number) (sym (counted ∙ after.fed))
-              (none_of_lawful (BreaksNoTapRule (sides_of x whole)) (before_passed (sides_of x whole)) (between_capture x more) (between_capture x whole) number
-              (subst (λ (s : TapSides). BreaksNoTapRule s (between_capture x whole)) sides after.lawful) (between_first rollover x more whole number rule settled said));
+              (none_of_lawful (BreaksNoTapRule own_sides) (before_passed own_sides) later taken number after.lawful first);
         }
 
-  tap_refuses : (number : ℕ) (rule : Rule) (stands : Option Bool) → PassedBy b.judge b (between_capture x whole) → refused_by b ≡ Some (tap.Unlawful number rule stands) → Refuses rollover point.Between x whole number
+  tap_refuses : (number : ℕ) (rule : Rule) (stands : Option Bool) → PassedBy b.judge b given_all → refused_by b ≡ Some (tap.Unlawful number rule stands) → Refuses rollover point.Between x whole number
   tap_refuses number rule stands passed refused = by b.judge refl where
     by : (o : Option TapJudge) → b.judge ≡ o → Refuses rollover point.Between x whole number
     by None none =
@@ -327,16 +354,16 @@ module _ (rollover : Option Rollover) (x : Transfer) (whole : List Placed) (sett
         let both : None ≡ Some (tap.Unlawful number rule stands) = sym no ∙ refused in absurd (cc)
     by (Some j) is =
         let refuses : refused_by b ≡ j.refused = rw is refl in
-        let tapped : HasTapped j b.sides (between_capture x whole) = subst (λ o. PassedBy o b (between_capture x whole)) is passed in
-        let at : IsTapRefusedIn b.sides (between_capture x whole) (tap.Unlawful number rule stands) = subst (λ o. TappedBy o j b.sides (between_capture x whole)) (sym refuses ∙ refused) tapped in
-        let here : IsTapRefusedIn (sides_of x whole) (between_capture x whole) (tap.Unlawful number rule stands) = subst (λ (s : TapSides). IsTapRefusedIn s (between_capture x whole) (tap.Unlawful number rule stands)) sides at in
+        let (taken, are, has) = tapped_there j is passed in
+        let at : IsTapRefusedIn own_sides taken (tap.Unlawful number rule stands) = subst (λ o. TappedBy o j own_sides taken) (sym refuses ∙ refused) has in
+        let apart : AreApart own_sides = subst AreApart sides (is_apart b.sides (sym one ∙ ap is_some is)) in
         record {
           fixed = λ more p. refl;
           rule = rule;
-          refused = (subst AreApart sides (is_apart b.sides (sym one ∙ ap is_some is)), stands, here);
+          refused = (record { server = apart.server; asked = apart.asked }, stands, of_taken rollover (refuses_so number rule stands) (sides_of x whole) given_all refl taken are at);
           only = λ more other by_rule there.
-              one_first (BreaksNoTapRule (sides_of x whole)) (before_passed (sides_of x whole)) (between_capture x more) (between_capture x whole) number other
-              (first_between (sides_of x whole) (between_capture x whole) number rule stands here) (between_first rollover x more whole other by_rule settled there);
+              let (later, first) = between_first rollover x more whole taken other by_rule settled are there in
+              one_first (BreaksNoTapRule own_sides) (before_passed own_sides) later taken number other (first_between own_sides taken number rule stands at) first;
         }
 
 -- ---- in the view
@@ -344,10 +371,10 @@ module _ (rollover : Option Rollover) (x : Transfer) (whole : List Placed) (sett
 refuses_by : (v : Tap) (b : Between) → v.judge ≡ Some b → has_refused_between v ≡ refused_by b
 refuses_by v b is = rw is refl
 
-module _ (rollover : Option Rollover) (v : Tap) (x : Transfer) (whole : List Placed) (own : v.transfer ≡ x) (settled : is_settled x.number whole ≡ true) (after : IsBetweenAfter v whole)
+module _ (rollover : Option Rollover) (v : Tap) (x : Transfer) (whole : List Placed) (own : v.transfer ≡ x) (settled : is_settled x.number whole ≡ true) (after : IsBetweenAfterBy rollover v whole)
     (one : IfSome v.judge IsJudgedIfApart) where
-  taps : IsTapping v x whole
-  taps = subst (λ (y : Transfer). IsTapping v y whole) own (tapping v whole (ap (λ (y : Transfer). is_settled y.number whole) own ∙ settled) after)
+  taps : IsTapping rollover v x whole
+  taps = subst (λ (y : Transfer). IsTapping rollover v y whole) own (tapping rollover v whole (ap (λ (y : Transfer). is_settled y.number whole) own ∙ settled) after)
 
   one_judge : IsJudgedIfApart taps.between
   one_judge = subst (λ o. IfSome o IsJudgedIfApart) taps.is one
@@ -372,4 +399,7 @@ above_none rollover h given number rule said =
 pub from_1 : (rollover : Option Rollover) (p : Point) (x : Transfer) (whole : List Placed) (number : ℕ) (rule : Rule) → IsRefusedAt rollover p x whole number rule → 0 < number
 from_1 rollover point.Client x whole number rule said = above_none rollover (client_header x) (client_capture host_name x whole) number rule said
 from_1 rollover point.Server x whole number rule said = above_none rollover (server_header x) (server_capture host_name x whole whole) number rule said
-from_1 rollover point.Between x whole number rule said = let at = said.2.refused.0 in omega (arith, at)
+from_1 rollover point.Between x whole number rule (apart, stands, said) =
+    let (taken, are, has) = taken_of rollover (refuses_so number rule stands) (sides_of x whole) (between_capture x whole) refl said in
+    let at = has.refused.0 in
+    omega (arith, at)

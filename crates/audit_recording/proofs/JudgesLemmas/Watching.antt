@@ -42,11 +42,11 @@ server_on : (rollover : Option Rollover) (server : Option View) (x : Transfer) (
 server_on rollover None x name p older off stands = stands
 server_on rollover (Some v) x name p older off stands = (stands.0, view_passes rollover v name p older (ap (λ (y : Transfer). is_about y.number p) stands.0 ∙ off) stands.1)
 
-between_on : (between : Option Between) (x : Transfer) (name : Naming) (p : Placed) (older : List Placed) → is_about x.number p ≡ false
-    → BetweenStands between x name older → BetweenStands between x name (p ∷ older)
-between_on None x name p older off stands = stands
-between_on (Some v) x name p older off stands =
-    (stands.0, λ is. between_passes_by v p older (about_none v.transfer.number p (ap (λ (y : Transfer). is_about y.number p) stands.0 ∙ off)) (stands.1 is))
+between_on : (rollover : Option Rollover) (between : Option Between) (x : Transfer) (name : Naming) (p : Placed) (older : List Placed) → is_about x.number p ≡ false
+    → BetweenStands rollover between x name older → BetweenStands rollover between x name (p ∷ older)
+between_on rollover None x name p older off stands = stands
+between_on rollover (Some v) x name p older off stands =
+    (stands.0, λ is. between_passes_by rollover v p older (about_none v.transfer.number p (ap (λ (y : Transfer). is_about y.number p) stands.0 ∙ off)) (stands.1 is))
 
 pub judges_on : (rollover : Option Rollover) (j : Judges) (x : Transfer) (name : Naming) (p : Placed) (older : List Placed) → is_about x.number p ≡ false
     → AreJudgesAfter rollover j x name older → AreJudgesAfter rollover j x name (p ∷ older)
@@ -54,7 +54,7 @@ judges_on rollover j x name p older off after = record {
   works = after.works;
   client = client_on rollover j.client x name p older off after.client;
   server = server_on rollover j.server x name p older off after.server;
-  between = between_on j.between x name p older off after.between;
+  between = between_on rollover j.between x name p older off after.between;
 }
 
 -- ---- the whole

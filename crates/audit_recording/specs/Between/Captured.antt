@@ -1,6 +1,7 @@
 -- What passed of a transfer at its client, as a tap between the two ends captures it, by a recording of unknown place. Lists
 -- have the newest first.
 use Rattle.std.specs.Prelude.{◌||◌, not, Bool, List, map, Option, Some, None}
+use Rattle.tftp_packet.specs.{Rollover}
 use Rattle.tftp_packet.specs.Hosts.{same_peer}
 use Rattle.audit_views.specs.Parties.{host_name}
 use Rattle.law_tap.specs.{PeerId, TapDatagram, TapSides}
@@ -32,6 +33,10 @@ sides_with x server = record { client = peer_of x.client; asked = peer_of x.aske
 -- by the whole recording
 abbrev pub sides_of : Transfer → List Placed → TapSides
 sides_of x whole = sides_with x (server_of x.number whole)
+
+-- the same sides where this comes after block 65535
+abbrev pub sides_by : Option Rollover → TapSides → TapSides
+sides_by rollover s = record { client = s.client; asked = s.asked; server = s.server; rollover = rollover }
 
 -- the client asked itself, or is the server: nothing passes between them that a tap could judge
 abbrev pub is_to_itself : Transfer → List Placed → Bool

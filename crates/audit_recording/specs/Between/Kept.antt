@@ -1,5 +1,6 @@
 -- What the judge between the ends keeps, and for which datagrams of a recording it stands.
 use Rattle.std.specs.Prelude.{◌≡◌, ℕ, true, false, List, [], length, map, reverse, is_some, Option, Some, None}
+use Rattle.tftp_packet.specs.{Rollover}
 use Rattle.law_tap.specs.{PeerId, TapDatagram, TapSides}
 use Rattle.judge_tap.specs.{TapJudge, passing_of, TapDatagram as Owned, TapRefusal}
 use Rattle.audit_flows.specs.Lines.{Placed}
@@ -7,8 +8,8 @@ use Rattle.audit_flows.specs.{Transfer}
 use Rattle.audit_flows.specs.Transfers.{AreEndsAfter, is_settled}
 use Rattle.audit_flows.specs.{TransferEnds}
 use Rattle.audit_views.specs.{Held, Party}
-use Rattle.audit_recording.specs.Between.Captured.{are_apart, between_capture, sides_of}
-use Rattle.audit_recording.specs.Between.Judged.{HasTapped}
+use Rattle.audit_recording.specs.Between.Captured.{are_apart, between_capture, sides_by, sides_of}
+use Rattle.audit_recording.specs.Between.Judged.{HasTappedBy}
 
 -- ---- what is fed
 
@@ -21,7 +22,8 @@ passed_as h = record { source = side_of h.source; destination = side_of h.target
 
 -- ---- two sides
 
--- The judge of what passes between them; there is none where the client is one of the other two, and it only counts.
+-- The judge of what passes between them; there is none where the client is one of the other two, and it only counts. The sides say
+-- what comes after block 65535.
 pub record Between : Type 0 where
   pub sides : TapSides
   pub judge : Option TapJudge
@@ -33,7 +35,7 @@ IsJudgedIfApart b = is_some b.judge ≡ are_apart b.sides
 
 abbrev pub PassedBy : Option TapJudge → Between → List TapDatagram → Type 0
 PassedBy None b given = b.counted ≡ length given
-PassedBy (Some j) b given = HasTapped j b.sides given
+PassedBy (Some j) b given = HasTappedBy b.sides.rollover j b.sides given
 
 -- It was given these datagrams, and nothing else.
 abbrev pub HasPassed : Between → List TapDatagram → Type 0
@@ -54,9 +56,11 @@ refused_by b = by b.judge where
 
 -- ---- the transfer, in one pass
 
--- The transfer's datagrams that are held, the oldest first, until it is known who the server is; then the judge of the sides.
+-- The transfer's datagrams that are held, the oldest first, until it is known who the server is; then the judge of the sides. The
+-- rollover is what comes after block 65535, where anything does.
 pub record View : Type 0 where
   pub transfer : Transfer
+  pub rollover : Option Rollover
   pub ends : TransferEnds
   pub held : List Owned
   pub judge : Option Between
@@ -66,26 +70,31 @@ abbrev pub AreHeld : List Owned → List TapDatagram → Type 0
 AreHeld held given = map passing_of held ≡ reverse given
 
 -- It is not known yet who the server is: those of the transfer at its client are held, and no others.
-pub record IsWaiting (v : View) (placed : List Placed) : Type 0 where
+pub record IsWaiting (rollover : Option Rollover) (v : View) (placed : List Placed) : Type 0 where
+  pub own : v.rollover ≡ rollover
   pub number : v.ends.number ≡ v.transfer.number
   pub ends : AreEndsAfter v.ends placed
   pub unsettled : is_settled v.transfer.number placed ≡ false
   pub held : AreHeld v.held (between_capture v.transfer placed)
 
 -- It is known: none is held, and the judge of just these sides was given all of them.
-pub record IsGoingOn (b : Between) (v : View) (placed : List Placed) : Type 0 where
+pub record IsGoingOnBy (rollover : Option Rollover) (b : Between) (v : View) (placed : List Placed) : Type 0 where
   pub settled : is_settled v.transfer.number placed ≡ true
   pub none : v.held ≡ []
-  pub sides : b.sides ≡ sides_of v.transfer placed
+  pub sides : b.sides ≡ sides_by rollover (sides_of v.transfer placed)
   pub passed : HasPassed b (between_capture v.transfer placed)
 
-abbrev pub BetweenBy : Option Between → View → List Placed → Type 0
-BetweenBy None v placed = IsWaiting v placed
-BetweenBy (Some b) v placed = IsGoingOn b v placed
+abbrev pub BetweenBy : Option Rollover → Option Between → View → List Placed → Type 0
+BetweenBy rollover None v placed = IsWaiting rollover v placed
+BetweenBy rollover (Some b) v placed = IsGoingOnBy rollover b v placed
 
--- It was fed these datagrams of a recording, and nothing else.
+-- It was fed these datagrams of a recording, and nothing else; the rollover is what comes after block 65535, where anything does.
+abbrev pub IsBetweenAfterBy : Option Rollover → View → List Placed → Type 0
+IsBetweenAfterBy rollover v placed = BetweenBy rollover v.judge v placed
+
+-- the same where blocks go up to 65535
 abbrev pub IsBetweenAfter : View → List Placed → Type 0
-IsBetweenAfter v placed = BetweenBy v.judge v placed
+IsBetweenAfter = IsBetweenAfterBy None
 
 -- how many are held, or were accepted
 abbrev pub given_to : View → ℕ

@@ -14,7 +14,7 @@ use Rattle.audit_flows.specs.{Transfer}
 use Rattle.audit_flows.specs.Transfers.{comes_of_earlier, is_beside, some_of, tells_strays}
 use Rattle.audit_views.specs.Parties.{host_name}
 use Rattle.audit_views.specs.Views.{client_capture, client_header, server_capture, server_header}
-use Rattle.audit_recording.specs.Between.{IsBetweenVerdict, between_capture, sides_of}
+use Rattle.audit_recording.specs.Between.{IsBetweenFoundBy, between_capture, sides_of}
 use Rattle.audit_recording.specs.declared.blame.blame.Blamed.{Blamed}
 use Rattle.audit_recording.specs.declared.rows.row.Point.{Point}
 use Rattle.audit_recording.specs.declared.rows.row.Point.TheVariants.{Client, Server, Between}
@@ -66,10 +66,10 @@ abbrev pub blamed_as : Point → Transfer → List ℕ → List Carried → Opti
 blamed_as point x named carried None = None
 blamed_as point x named carried (Some number) = option_map (blamed_of x) (seen_as point x.number named carried number)
 
--- Of the whole recording it is said at the point that the datagram of that number, the first that does, breaks the rule; at an end by
--- what comes after block 65535. Between the ends nothing is said of a client that asked itself.
+-- Of the whole recording it is said at the point that the datagram of that number, the first that does, breaks the rule, by what
+-- comes after block 65535. Between the ends nothing is said of a client that asked itself.
 abbrev pub IsRefusedAt : Option Rollover → Point → Transfer → List Placed → ℕ → Rule → Type 0
 IsRefusedAt rollover Client x whole number rule = IsSaidBy rollover (Err (Unlawful number rule)) (client_header x) (reverse (client_capture host_name x whole))
 IsRefusedAt rollover Server x whole number rule = IsSaidBy rollover (Err (Unlawful number rule)) (server_header x) (reverse (server_capture host_name x whole whole))
 IsRefusedAt rollover Between x whole number rule =
-    AreApart (sides_of x whole) × (stands : Option Bool) × IsBetweenVerdict (sides_of x whole) (between_capture x whole) (Err (tap.Unlawful number rule stands))
+    AreApart (sides_of x whole) × (stands : Option Bool) × IsBetweenFoundBy rollover (sides_of x whole) (between_capture x whole) (Err (tap.Unlawful number rule stands))

@@ -10,7 +10,7 @@ use Rattle.audit_flows.specs.{Transfer}
 use Rattle.audit_views.specs.Views.{Naming, Client, IsClientAfterBy, IsViewAfterBy, View, fed_to, has_refused}
 use Rattle.audit_views.specs.{Party}
 use Rattle.audit_views.specs.Parties.{host_name}
-use Rattle.audit_recording.specs.Between.{IsBetweenAfter, View as Between, given_to, has_refused as refused_there}
+use Rattle.audit_recording.specs.Between.{IsBetweenAfterBy, View as Between, given_to, has_refused as refused_there}
 use Rattle.tftp_packet.specs.{Rollover}
 use Rattle.tftp_judge.specs.{Refusal}
 use Rattle.judge_tap.specs.{TapRefusal}
@@ -42,15 +42,15 @@ abbrev pub ServerStands : Option Rollover → Option View → Transfer → Namin
 ServerStands rollover = StandsAs (λ (v : View). v.transfer) (λ v name placed. IsViewAfterBy rollover v name placed)
 
 -- the judge between the ends wants the hosts called by their addresses
-abbrev pub BetweenStands : Option Between → Transfer → Naming → List Placed → Type 0
-BetweenStands = StandsAs (λ (v : Between). v.transfer) (λ v name placed. name ≡ host_name → IsBetweenAfter v placed)
+abbrev pub BetweenStands : Option Rollover → Option Between → Transfer → Naming → List Placed → Type 0
+BetweenStands rollover = StandsAs (λ (v : Between). v.transfer) (λ v name placed. name ≡ host_name → IsBetweenAfterBy rollover v placed)
 
 -- each of them
 pub record AreJudgesAfter (rollover : Option Rollover) (j : Judges) (x : Transfer) (name : Naming) (placed : List Placed) : Type 0 where
   pub works : j.failed ≡ false
   pub client : ClientStands rollover j.client x name placed
   pub server : ServerStands rollover j.server x name placed
-  pub between : BetweenStands j.between x name placed
+  pub between : BetweenStands rollover j.between x name placed
 
 -- each is this transfer's
 pub record AreOf (j : Judges) (x : Transfer) : Type 0 where

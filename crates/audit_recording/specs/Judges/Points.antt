@@ -3,7 +3,7 @@ use Rattle.std.specs.Prelude.{◌&&◌, ◌∷◌, [], Bool, true, false, nat_eq
 use Rattle.std.specs.List.{starts_with}
 use Rattle.std.specs.Str.{bytes_eq}
 use Rattle.audit_recording.specs.declared.judges.judging.Judging.{Judging}
-use Rattle.audit_recording.specs.declared.judges.judging.Judging.TheVariants.{Nowhere, Client, Server, ClientBy, ServerBy, Between, WhereRecorded}
+use Rattle.audit_recording.specs.declared.judges.judging.Judging.TheVariants.{Nowhere, Client, Server, ClientBy, ServerBy, Between, BetweenBy, WhereRecorded}
 use Rattle.audit_recording.specs.declared.judges.judging.Points.{Points}
 use Rattle.tftp_packet.specs.{Rollover}
 use Rattle.audit_flows.specs.Lines.{same_address}
@@ -31,10 +31,12 @@ points_of Server x = record { client = false; server = true; between = false }
 points_of (ClientBy r) x = record { client = true; server = false; between = false }
 points_of (ServerBy r) x = record { client = false; server = true; between = false }
 points_of Between x = record { client = false; server = false; between = true }
+points_of (BetweenBy r) x = record { client = false; server = false; between = true }
 points_of WhereRecorded x = record { client = is_at_own_host x; server = is_at_own_host x; between = not (is_inside_host x) }
 
 -- what comes after block 65535 there, where anything does
 abbrev pub rollover_of : Judging → Option Rollover
 rollover_of (ClientBy r) = Some r
 rollover_of (ServerBy r) = Some r
+rollover_of (BetweenBy r) = Some r
 rollover_of _ = None

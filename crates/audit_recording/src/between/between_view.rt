@@ -1,11 +1,12 @@
 //! A transfer as it is seen between its two ends, judged in one pass over a recording.
 
-ghost use Rattle.std.specs.Prelude.{◌≡◌, ◌+◌, ◌^◌, ◌<◌, ◌≤◌, ◌∷◌, ℕ, List, [], All, length, map, reverse, IfSome, OnOk, OnErr, Ok, Err, None, Some, true, false};
+ghost use Rattle.std.specs.Prelude.{◌≡◌, ◌+◌, ◌^◌, ◌<◌, ◌≤◌, ◌∷◌, ℕ, List, [], All, length, map, reverse, IfSome, Option, OnOk, OnErr, Ok, Err, None, Some, true, false};
 ghost use Rattle.std.specs.VecDeque.{deque_len};
-ghost use Rattle.audit_recording.specs.Between.Captured.{between_capture, is_to_itself, sides_of};
-ghost use Rattle.audit_recording.specs.Between.Judged.{IsBetweenVerdict};
-ghost use Rattle.audit_recording.specs.Between.Kept.{AreHeld, HasPassed, IsBetweenAfter, IsJudgedIfApart, counted_by, given_to, has_refused};
+ghost use Rattle.audit_recording.specs.Between.Captured.{between_capture, is_to_itself, sides_by, sides_of};
+ghost use Rattle.audit_recording.specs.Between.Judged.{IsBetweenFoundBy, IsBetweenVerdict};
+ghost use Rattle.audit_recording.specs.Between.Kept.{AreHeld, HasPassed, IsBetweenAfter, IsBetweenAfterBy, IsJudgedIfApart, counted_by, given_to, has_refused};
 ghost use Rattle.audit_views.specs.Parties.{host_name};
+ghost use Rattle.tftp_packet.specs.{Rollover};
 ghost use Rattle.law_tap.specs.{AreApart, TapDatagram as Passing};
 ghost use Rattle.judge_tap.specs.{TapDatagram as Owned, TapRefusal as RefusalKind};
 ghost use Rattle.audit_flows.specs.Lines.{Placed, is_of};
@@ -25,6 +26,7 @@ use std::marker::Model;
 use std::mem;
 use tftp_ends::blocks::Delivered;
 use tftp_judge::Meaning;
+use tftp_packet::rounds::Rollover;
 
 /// The judge of a transfer between its two ends (RFC 1350, section 4), fed with a recording from its first datagram to its
 /// last. Until it is known who the server is it holds the transfer's datagrams; then it gives them to the judge, and holds
@@ -32,6 +34,7 @@ use tftp_judge::Meaning;
 #[derive(Drop)]
 pub struct BetweenView<D: Delivered + Drop> {
     transfer: Transfer,
+    rollover: Option<Rollover>,
     ends: TransferEnds,
     held: VecDeque<TapDatagram>,
     judge: Option<SidesJudge<D>>,
@@ -50,20 +53,30 @@ impl<D: Delivered + Drop> Model for BetweenView<D> {
 
     ghost coded = { Prim.hlevel (codes, sender_code, receiver_code, options_code, parts_code) };
 
-    ghost view = { λ v. record { transfer = v.transfer; ends = v.ends; held = v.held.items; judge = v.judge } };
+    ghost view = { λ v. record { transfer = v.transfer; rollover = v.rollover; ends = v.ends; held = v.held.items; judge = v.judge } };
 
     ghost invariant = { λ v. (v.ends.number ≡ v.transfer.number) × (deque_len v.held ≤ 2 ^ 40) × All (λ (d : Owned). length d.payload ≤ 65527) v.held.items };
 }
 
 impl<D: Delivered + Drop> BetweenView<D> {
-    /// Of this transfer, before any datagram. Takes no memory.
+    /// Of this transfer, before any datagram; its blocks go up to 65535. Takes no memory.
     pub fn new(alloc: Global, transfer: Transfer) -> Self
         ensures after { IsBetweenAfter result [] }
         ensures transfer { result.transfer ≡ transfer }
         ensures none { given_to result ≡ 0 }
     {
+        BetweenView::by(alloc, transfer, None)
+    }
+
+    /// The same where this comes after block 65535 (RFC 1350, section 5, gives numbers two bytes and says no more).
+    pub fn by(alloc: Global, transfer: Transfer, rollover: Option<Rollover>) -> Self
+        ensures after { IsBetweenAfterBy rollover result [] }
+        ensures transfer { result.transfer ≡ transfer }
+        ensures none { given_to result ≡ 0 }
+    {
         BetweenView {
             transfer,
+            rollover,
             ends: TransferEnds::new(transfer.number),
             held: VecDeque::new(alloc),
             judge: None,
@@ -77,6 +90,8 @@ impl<D: Delivered + Drop> BetweenView<D> {
         requires short { length fed.now.payload.now ≤ 65527 }
         ensures after { (p : Placed) (older : List Placed) → IsBetweenAfter self.old older
             → IsFed host_name p (held_of fed.now) → OnOk result (IsBetweenAfter self.new (p ∷ older)) }
+        ensures by_rollover { (rollover : Option Rollover) (p : Placed) (older : List Placed) → IsBetweenAfterBy rollover self.old older
+            → IsFed host_name p (held_of fed.now) → OnOk result (IsBetweenAfterBy rollover self.new (p ∷ older)) }
         ensures others { (p : Placed) → fed.now.place.now ≡ p.place → is_of self.old.transfer.number p ≡ false
             → (result ≡ Ok tt) × (self.new ≡ self.old) }
         ensures same { OnErr result (self.new ≡ self.old) }
@@ -99,9 +114,9 @@ impl<D: Delivered + Drop> BetweenView<D> {
         requires waits { self.old.judge ≡ None }
         requires few { length self.old.held < 2 ^ 40 }
         requires short { length fed.now.payload.now ≤ 65527 }
-        ensures after { (p : Placed) (older : List Placed) → IsBetweenAfter self.old older
+        ensures after { (rollover : Option Rollover) (p : Placed) (older : List Placed) → IsBetweenAfterBy rollover self.old older
             → IsFed host_name p (held_of fed.now) → is_of self.old.transfer.number p ≡ true
-            → OnOk result (IsBetweenAfter self.new (p ∷ older)) }
+            → OnOk result (IsBetweenAfterBy rollover self.new (p ∷ older)) }
         ensures same { OnErr result (self.new ≡ self.old) }
         ensures counts { given_to self.new ≤ given_to self.old + 1 }
         ensures transfer { self.new.transfer ≡ self.old.transfer }
@@ -111,7 +126,7 @@ impl<D: Delivered + Drop> BetweenView<D> {
             .note(fed.place, fed.source.end, fed.target.end, fed.payload);
         if self.ends.is_settled() {
             let held = mem::replace(&mut self.held, VecDeque::new(alloc));
-            let sides = sides_of(&self.transfer, &self.ends);
+            let sides = sides_of(&self.transfer, self.rollover, &self.ends);
             self.judge = Some(judge_of(alloc, sides, held));
         }
         Ok(())
@@ -120,9 +135,9 @@ impl<D: Delivered + Drop> BetweenView<D> {
     /// How many datagrams are held.
     pub fn held(&self) -> usize
         ensures held { result ≡ length self.now.held }
-        ensures settled { (placed : List Placed) → IsBetweenAfter self.now placed → is_settled self.now.transfer.number placed ≡ true
+        ensures settled { (rollover : Option Rollover) (placed : List Placed) → IsBetweenAfterBy rollover self.now placed → is_settled self.now.transfer.number placed ≡ true
             → result ≡ 0 }
-        ensures own { (placed : List Placed) → IsBetweenAfter self.now placed
+        ensures own { (rollover : Option Rollover) (placed : List Placed) → IsBetweenAfterBy rollover self.now placed
             → result ≤ length (client_view self.now.transfer.number placed) }
     {
         self.held.len()
@@ -162,21 +177,26 @@ impl<D: Delivered + Drop> BetweenView<D> {
     pub fn finish(self, alloc: Global) -> Result<Meaning, TapRefusal>
         ensures judged { (whole : List Placed) → IsBetweenAfter self whole → AreApart (sides_of self.transfer whole)
             → IsBetweenVerdict (sides_of self.transfer whole) (between_capture self.transfer whole) result }
-        ensures to_itself { (whole : List Placed) → IsBetweenAfter self whole → is_to_itself self.transfer whole ≡ true
+        ensures by_rollover { (rollover : Option Rollover) (whole : List Placed) → IsBetweenAfterBy rollover self whole → AreApart (sides_of self.transfer whole)
+            → IsBetweenFoundBy rollover (sides_of self.transfer whole) (between_capture self.transfer whole) result }
+        ensures to_itself { (rollover : Option Rollover) (whole : List Placed) → IsBetweenAfterBy rollover self whole → is_to_itself self.transfer whole ≡ true
             → result ≡ Err (RefusalKind.Incomplete (given_to self)) }
-        ensures all { (whole : List Placed) → IsBetweenAfter self whole → is_to_itself self.transfer whole ≡ true
+        ensures all { (rollover : Option Rollover) (whole : List Placed) → IsBetweenAfterBy rollover self whole → is_to_itself self.transfer whole ≡ true
             → given_to self ≡ length (between_capture self.transfer whole) }
         ensures for_good { (refusal : RefusalKind) → has_refused self ≡ Some refusal → result ≡ Err refusal }
     {
         let BetweenView {
             transfer,
+            rollover,
             ends,
             held,
             judge,
         } = self;
         match judge {
             Some(judge) => judge.finish(alloc),
-            None => { judge_of::<D>(alloc, sides_of(&transfer, &ends), held).finish(alloc) }
+            None => {
+                judge_of::<D>(alloc, sides_of(&transfer, rollover, &ends), held).finish(alloc)
+            }
         }
     }
 }

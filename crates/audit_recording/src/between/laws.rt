@@ -1,11 +1,13 @@
 //! Laws of the definitions in `specs/`. Each is the contract of a function that does nothing.
 
-ghost use Rattle.std.specs.Prelude.{◌≡◌, [], ◌++◌, ◌∷◌, List, false, true};
-ghost use Rattle.audit_recording.specs.Between.Captured.{between_capture, is_to_itself, server_or_asked, sides_of};
-ghost use Rattle.audit_recording.specs.Between.Kept.{IsBetweenAfter, View};
+ghost use Rattle.std.specs.Prelude.{◌≡◌, [], ◌++◌, ◌∷◌, List, None, Option, Some, false, true};
+ghost use Rattle.audit_recording.specs.Between.Captured.{between_capture, is_to_itself, server_or_asked, sides_by, sides_of};
+ghost use Rattle.audit_recording.specs.Between.Judged.{HoldsBetween};
+ghost use Rattle.audit_recording.specs.Between.Kept.{IsBetweenAfterBy, View};
 ghost use Rattle.audit_recording.specs.Between.Worked.{asked_twice_between, asked_twice_sides, first_transfer};
 ghost use Rattle.audit_views.specs.Parties.{IsAddress};
-ghost use Rattle.law_tap.specs.{AreApart};
+ghost use Rattle.law_tap.specs.{AreApart, block_65536, last_of_round, number_zero, rolling_sides};
+ghost use Rattle.tftp_packet.specs.{Rollover, Zero};
 ghost use Rattle.audit_flows.specs.Lines.{Placed, is_of};
 ghost use Rattle.audit_flows.specs.{Transfer};
 ghost use Rattle.audit_flows.specs.Transfers.{placed, is_settled, server_of, asked_twice};
@@ -17,6 +19,14 @@ pub fn worked_between()
     ensures apart { is_to_itself first_transfer (placed [] asked_twice) ≡ false }
 {}
 
+/// By 0 after block 65535 a DATA of number 0 is taken for block 65536 once block 65535 has passed. Where no rollover is named it is taken as
+/// it is.
+pub fn worked_numbers()
+    ensures by_zero { HoldsBetween (Some Zero) (λ k taken. taken ≡ block_65536 ∷ last_of_round ∷ []) (sides_by None rolling_sides) (number_zero ∷ last_of_round ∷ []) }
+    ensures by_none { HoldsBetween None (λ k taken. taken ≡ number_zero ∷ last_of_round ∷ []) (sides_by None rolling_sides) (number_zero ∷ last_of_round ∷ []) }
+    ensures sides { sides_by (Some Zero) (sides_by None rolling_sides) ≡ rolling_sides }
+{}
+
 /// Once it is known whom a client asked, who answered and with whom it went on, the sides stay, whatever comes.
 pub fn settled_sides_stay()
     ensures { (x : Transfer) (more placed : List Placed) → is_settled x.number placed ≡ true
@@ -26,8 +36,8 @@ pub fn settled_sides_stay()
 /// A datagram that is not of a transfer at its client tells its judge nothing: what stands for the datagrams before it stands
 /// for it too.
 pub fn what_is_not_of_a_transfer_changes_nothing()
-    ensures { (v : View) (p : Placed) (older : List Placed) → is_of v.transfer.number p ≡ false
-        → IsBetweenAfter v older → IsBetweenAfter v (p ∷ older) }
+    ensures { (rollover : Option Rollover) (v : View) (p : Placed) (older : List Placed) → is_of v.transfer.number p ≡ false
+        → IsBetweenAfterBy rollover v older → IsBetweenAfterBy rollover v (p ∷ older) }
 {}
 
 /// Endpoints that are not the same have not the same sides, since the names of hosts are those of their addresses: a client that

@@ -1,7 +1,7 @@
 //! What is recorded, as a tap is given it.
 
 ghost use Rattle.std.specs.Prelude.{◌≡◌, ℕ, List, length, IfOk};
-ghost use Rattle.audit_recording.specs.Between.Captured.{peer_of, sides_of};
+ghost use Rattle.audit_recording.specs.Between.Captured.{peer_of, sides_by, sides_of};
 ghost use Rattle.audit_recording.specs.Between.Kept.{passed_as, side_of};
 ghost use Rattle.judge_tap.specs.{passing_of};
 ghost use Rattle.audit_flows.specs.Transfers.{AreEndsAfter};
@@ -17,11 +17,13 @@ use law_tap::Sides;
 use std::alloc::{AllocError, Global};
 use tftp_packet::Bytes;
 use tftp_packet::hosts::Peer;
+use tftp_packet::rounds::Rollover;
 
-/// The sides of a transfer whose ends are known: where no server is, it is whom the client asked.
-pub fn sides_of(transfer: &Transfer, ends: &TransferEnds) -> Sides
+/// The sides of a transfer whose ends are known, with what comes after block 65535: where no server is, it is whom the client
+/// asked.
+pub fn sides_of(transfer: &Transfer, rollover: Option<Rollover>, ends: &TransferEnds) -> Sides
     requires number { ends.now.number ≡ transfer.now.number }
-    ensures { (placed : List Placed) → AreEndsAfter ends.now placed → result ≡ sides_of transfer.now placed }
+    ensures { (placed : List Placed) → AreEndsAfter ends.now placed → result ≡ sides_by rollover (sides_of transfer.now placed) }
 {
     let server = match ends.server() {
         Some(server) => server,
@@ -31,7 +33,7 @@ pub fn sides_of(transfer: &Transfer, ends: &TransferEnds) -> Sides
         client: peer_of(transfer.client),
         asked: peer_of(transfer.asked),
         server: peer_of(server),
-        rollover: None,
+        rollover,
     }
 }
 

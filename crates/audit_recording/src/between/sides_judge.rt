@@ -1,9 +1,10 @@
 //! The judge of what passes between two sides, where there are two.
 
-ghost use Rattle.std.specs.Prelude.{◌≡◌, ◌+◌, ◌^◌, ◌<◌, ◌≤◌, ◌∷◌, ℕ, List, [], length, OnOk, OnErr, Ok, Err, None, Some, false};
+ghost use Rattle.std.specs.Prelude.{◌≡◌, ◌+◌, ◌^◌, ◌<◌, ◌≤◌, ◌∷◌, ℕ, List, [], length, OnOk, OnErr, Ok, Err, None, Option, Some, false};
 ghost use Rattle.audit_recording.specs.Between.Captured.{are_apart};
-ghost use Rattle.audit_recording.specs.Between.Judged.{HasTapped, IsBetweenVerdict};
+ghost use Rattle.audit_recording.specs.Between.Judged.{HasTappedBy, IsBetweenFoundBy};
 ghost use Rattle.audit_recording.specs.Between.Kept.{HasPassed, IsJudgedIfApart, counted_by, passed_as, refused_by};
+ghost use Rattle.tftp_packet.specs.{Rollover};
 ghost use Rattle.law_tap.specs.{AreApart, TapDatagram as Passing, TapSides};
 ghost use Rattle.judge_tap.specs.{passing_of, TapRefusal as RefusalKind};
 ghost use Rattle.audit_views.specs.Views.{held_of};
@@ -16,9 +17,11 @@ use std::alloc::{AllocError, Global};
 use std::marker::Model;
 use tftp_ends::blocks::Delivered;
 use tftp_judge::Meaning;
+use tftp_packet::rounds::Rollover;
 
 /// The judge of what passes between two sides. Where the client is the server too, or where it asks, there is none: then it
-/// counts what passes, and refuses nothing.
+/// counts what passes, and refuses nothing. Where its sides say that numbers begin again after block 65535, it takes a number for
+/// the block near the highest that has passed.
 #[derive(Drop)]
 pub struct SidesJudge<D: Delivered + Drop> {
     sides: Sides,
@@ -75,10 +78,11 @@ impl<D: Delivered + Drop> SidesJudge<D> {
         ensures apart { IsJudgedIfApart self.new }
         ensures rests { (refusal : RefusalKind) → refused_by self.old ≡ Some refusal → (result ≡ Ok tt) × (self.new ≡ self.old) }
     {
+        let rollover = self.sides.rollover;
         match &mut self.judge {
             None => self.counted += 1,
             Some(judge) => match judge.refused() {
-                None => give(judge, alloc, passed(alloc, fed)?),
+                None => give(judge, alloc, rollover, passed(alloc, fed)?),
                 Some(_) => {}
             },
         }
@@ -94,9 +98,10 @@ impl<D: Delivered + Drop> SidesJudge<D> {
         ensures sides { self.new.sides ≡ self.old.sides }
         ensures apart { IsJudgedIfApart self.new }
     {
+        let rollover = self.sides.rollover;
         match &mut self.judge {
             None => self.counted += 1,
-            Some(judge) => give(judge, alloc, datagram),
+            Some(judge) => give(judge, alloc, rollover, datagram),
         }
     }
 
@@ -123,7 +128,8 @@ impl<D: Delivered + Drop> SidesJudge<D> {
 
     /// What there is to say of all that it was given: where there is no judge, that it is nothing whole.
     pub fn finish(self, alloc: Global) -> Result<Meaning, TapRefusal>
-        ensures judged { (given : List Passing) → HasPassed self given → AreApart self.sides → IsBetweenVerdict self.sides given result }
+        ensures judged { (given : List Passing) → HasPassed self given → AreApart self.sides
+            → IsBetweenFoundBy self.sides.rollover self.sides given result }
         ensures to_itself { are_apart self.sides ≡ false → result ≡ Err (RefusalKind.Incomplete (counted_by self)) }
         ensures all { (given : List Passing) → HasPassed self given → are_apart self.sides ≡ false → counted_by self ≡ length given }
         ensures for_good { (refusal : RefusalKind) → refused_by self ≡ Some refusal → result ≡ Err refusal }
@@ -140,16 +146,25 @@ impl<D: Delivered + Drop> SidesJudge<D> {
     }
 }
 
-/// Gives a judge the next datagram; a refusal it keeps.
-fn give<D: Delivered + Drop>(judge: &mut TapJudge<D>, alloc: Global, datagram: TapDatagram)
+/// Gives a judge the next datagram, whose numbers begin again or do not; a refusal it keeps.
+fn give<D: Delivered + Drop>(
+    judge: &mut TapJudge<D>,
+    alloc: Global,
+    rollover: Option<Rollover>,
+    datagram: TapDatagram,
+)
     requires few { judge.old.fed < 2 ^ 40 }
     requires short { length datagram.payload ≤ 65527 }
-    ensures tapped { (s : TapSides) (given : List Passing) → HasTapped judge.old s given
-        → HasTapped judge.new s (passing_of datagram ∷ given) }
+    ensures tapped { (s : TapSides) (given : List Passing) → HasTappedBy rollover judge.old s given
+        → HasTappedBy rollover judge.new s (passing_of datagram ∷ given) }
     ensures counts { judge.new.fed ≤ judge.old.fed + 1 }
 {
-    match judge.feed(alloc, datagram) {
-        Ok(()) => {}
-        Err(_) => {}
+    match rollover {
+        Some(rollover) => {
+            let _kept = judge.feed_numbered(alloc, rollover, datagram);
+        }
+        None => {
+            let _kept = judge.feed(alloc, datagram);
+        }
     }
 }

@@ -150,7 +150,7 @@ fn take_between(
     ensures { (rollover : Option Rollover) (x : Transfer) (f : Framed) (whole : List Placed) (frames : List Framed) → is_some (option_copied judge.entry) ≡ true → AreFactsOf rollover facts.old PointKind.Between x whole frames
         → passed ≡ passed_of x f → is_about_it x.number f ≡ true
         → ends.now.number ≡ x.number → AreEndsAfter ends.now (f.placed ∷ whole) → map (λ g. g.placed) frames ≡ whole
-        → BetweenStands (option_copied judge.entry) x host_name (f.placed ∷ whole)
+        → BetweenStands rollover (option_copied judge.entry) x host_name (f.placed ∷ whole)
         → OnOk result (AreFactsOf rollover facts.new PointKind.Between x (f.placed ∷ whole) (f ∷ frames)) }
 {
     match judge {

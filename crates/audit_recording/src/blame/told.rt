@@ -4,7 +4,7 @@ ghost use Rattle.std.specs.Prelude.{◌≡◌, List, Option};
 ghost use Rattle.audit_flows.specs.Lines.{Placed};
 ghost use Rattle.audit_flows.specs.{Transfer};
 ghost use Rattle.audit_flows.specs.Transfers.{AreEndsAfter};
-ghost use Rattle.audit_recording.specs.Between.{IsBetweenAfter};
+ghost use Rattle.audit_recording.specs.Between.{IsBetweenAfterBy};
 ghost use Rattle.audit_recording.specs.Blame.Facts.{refused_between, refused_in};
 ghost use Rattle.audit_recording.specs.Blame.Kept.{IsTold};
 ghost use Rattle.audit_recording.specs.declared.rows.row.Point.{Point};
@@ -60,7 +60,7 @@ pub fn told_by_server(judge: &ServerView<RingDelivered>, ends: &TransferEnds) ->
 /// What the judge between the ends tells; these are known by now.
 pub fn told_between(judge: &BetweenView<RingDelivered>, ends: &TransferEnds) -> Told
     ensures { (rollover : Option Rollover) (x : Transfer) (whole : List Placed) → judge.now.transfer ≡ x → ends.now.number ≡ x.number → AreEndsAfter ends.now whole
-        → IsBetweenAfter judge.now whole → IsTold rollover Point.Between x whole result }
+        → IsBetweenAfterBy rollover judge.now whole → IsTold rollover Point.Between x whole result }
 {
     if !ends.is_settled() {
         return Told::Nothing;

@@ -5,7 +5,7 @@ ghost use Rattle.law_model.specs.Rules.{or_this};
 ghost use Rattle.audit_flows.specs.Lines.{Placed, doubts_of, same_endpoint, transfer_of};
 ghost use Rattle.audit_flows.specs.{Transfer};
 ghost use Rattle.audit_flows.specs.Transfers.{IsDoubtedAfter, comes_of_earlier, is_beside, opened_it, server_of, tells_strays};
-ghost use Rattle.audit_recording.specs.Between.{IsBetweenVerdict, between_capture, server_or_asked, sides_of};
+ghost use Rattle.audit_recording.specs.Between.{IsBetweenFoundBy, between_capture, server_or_asked, sides_of};
 ghost use Rattle.audit_recording.specs.Blame.Facts.{blamed_as, blamed_of, has_gone_on, is_for_server, refused_between, refused_in};
 ghost use Rattle.audit_recording.specs.Blame.Frames.{Carried, Framed, framed, framed_after, view_of, whole_of};
 ghost use Rattle.audit_recording.specs.Blame.Kept.{IsNoted, IsPassing, IsSameBut, IsTrailBetween, IsTrailOf, is_about_it, sent_of};
@@ -421,7 +421,7 @@ impl Trail {
     pub fn between(&self, verdict: &Result<Meaning, TapRefusal>) -> Option<Blamed>
         ensures { (judging : JudgingKind) (x : Transfer) (named : List ℕ) (carried : List Carried) → IsTrailOf self.now judging x named carried
             → IsTrailBetween self.now judging x named carried → (points_of judging x).between ≡ true → AreApart (sides_of x (whole_of named carried))
-            → IsBetweenVerdict (sides_of x (whole_of named carried)) (between_capture x (whole_of named carried)) verdict.now
+            → IsBetweenFoundBy (rollover_of judging) (sides_of x (whole_of named carried)) (between_capture x (whole_of named carried)) verdict.now
             → result ≡ blamed_as PointKind.Between x named carried (refused_between verdict.now) }
     {
         match refused_between(verdict) {

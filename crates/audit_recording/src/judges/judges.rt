@@ -1,7 +1,7 @@
 //! The judges of one transfer, beside each other.
 
 ghost use Rattle.std.specs.Prelude.{◌≡◌, ◌≤◌, ◌∷◌, List, [], length, Option, Some, IfSome, IsErr, OnErr, OnOk, Ok, Err, MatchBool, is_some, true, false, unwrap_or};
-ghost use Rattle.audit_recording.specs.Between.{between_capture, is_to_itself, sides_of, IsBetweenVerdict};
+ghost use Rattle.audit_recording.specs.Between.{between_capture, is_to_itself, sides_of, IsBetweenFoundBy};
 ghost use Rattle.audit_views.specs.Parties.{host_name};
 ghost use Rattle.audit_recording.specs.Judges.Kept.{AreAt, AreFew, AreJudgesAfter, AreOf, AreRefusalsTold, AreTold, AreWants, BetweenStands, ClientStands, IsCrowded, ServerStands, fed_at_client, fed_at_server, fed_between, refused_at_client, refused_at_server, refused_between};
 ghost use Rattle.law_tap.specs.{AreApart};
@@ -53,7 +53,7 @@ impl<D: Delivered + Drop> Model for Judges<D> {
 }
 
 impl<D: Delivered + Drop> Judges<D> {
-    /// Of this transfer at these points, before any datagram; at its ends this comes after block 65535. Takes no memory.
+    /// Of this transfer at these points, before any datagram; this comes after block 65535. Takes no memory.
     pub(crate) fn new(
         alloc: Global,
         transfer: Transfer,
@@ -66,10 +66,11 @@ impl<D: Delivered + Drop> Judges<D> {
     {
         let at_client = ClientJudge::by(alloc, transfer, rollover);
         let at_server = ServerView::by(alloc, transfer, rollover);
+        let between = BetweenView::by(alloc, transfer, rollover);
         Judges {
             client: points.client.then_some(at_client),
             server: points.server.then_some(at_server),
-            between: points.between.then_some(BetweenView::new(alloc, transfer)),
+            between: points.between.then_some(between),
             failed: false,
         }
     }
@@ -115,7 +116,7 @@ impl<D: Delivered + Drop> Judges<D> {
         ensures server { (rollover : Option Rollover) (x : Transfer) (name : Naming) (whole : List Placed) → AreJudgesAfter rollover self x name whole
             → IfSome result.server (IsFoundBy rollover (server_header x) (server_capture name x whole whole)) }
         ensures between { (rollover : Option Rollover) (x : Transfer) (whole : List Placed) → AreJudgesAfter rollover self x host_name whole → AreApart (sides_of x whole)
-            → IfSome result.between (λ said. IsBetweenVerdict (sides_of x whole) (between_capture x whole) said) }
+            → IfSome result.between (IsBetweenFoundBy rollover (sides_of x whole) (between_capture x whole)) }
         ensures to_itself { (rollover : Option Rollover) (x : Transfer) (whole : List Placed) → AreJudgesAfter rollover self x host_name whole → is_to_itself x whole ≡ true
             → IfSome result.between (λ said. said ≡ Err (RefusalKind.Incomplete (length (between_capture x whole)))) }
         ensures points { (points : Points) → AreAt self points → AreTold result points }
@@ -189,9 +190,9 @@ fn said_between<D: Delivered + Drop>(
     failed: bool,
 ) -> Option<Result<Meaning, TapRefusal>>
     ensures there { is_some result ≡ is_some judge }
-    ensures found { (x : Transfer) (whole : List Placed) → failed ≡ false → BetweenStands judge x host_name whole → AreApart (sides_of x whole)
-        → IfSome result (λ said. IsBetweenVerdict (sides_of x whole) (between_capture x whole) said) }
-    ensures to_itself { (x : Transfer) (whole : List Placed) → failed ≡ false → BetweenStands judge x host_name whole → is_to_itself x whole ≡ true
+    ensures found { (rollover : Option Rollover) (x : Transfer) (whole : List Placed) → failed ≡ false → BetweenStands rollover judge x host_name whole → AreApart (sides_of x whole)
+        → IfSome result (IsBetweenFoundBy rollover (sides_of x whole) (between_capture x whole)) }
+    ensures to_itself { (rollover : Option Rollover) (x : Transfer) (whole : List Placed) → failed ≡ false → BetweenStands rollover judge x host_name whole → is_to_itself x whole ≡ true
         → IfSome result (λ said. said ≡ Err (RefusalKind.Incomplete (length (between_capture x whole)))) }
     ensures wants { failed ≡ true → IfSome result (λ said. said ≡ Err (unwrap_or (refused_between judge) (RefusalKind.Memory (fed_between judge)))) }
     ensures refused { (refusal : RefusalKind) → refused_between judge ≡ Some refusal → result ≡ Some (Err refusal) }

@@ -22,6 +22,8 @@ pub enum Judging {
     ServerBy(Rollover),
     /// Between the two ends.
     Between,
+    /// Between the two ends, where this comes after block 65535.
+    BetweenBy(Rollover),
     /// At both ends where the client asks at its own address, since both were recorded then if the recording was made at that
     /// host. And between the ends, unless what passed never left the host.
     WhereRecorded,
@@ -60,7 +62,7 @@ impl Judging {
                 server: true,
                 ..NOWHERE
             },
-            Judging::Between => Points {
+            Judging::Between | Judging::BetweenBy(_) => Points {
                 between: true,
                 ..NOWHERE
             },
@@ -81,7 +83,9 @@ impl Judging {
         ensures { result ≡ rollover_of self }
     {
         match self {
-            Judging::ClientBy(rollover) | Judging::ServerBy(rollover) => Some(rollover),
+            Judging::ClientBy(rollover)
+            | Judging::ServerBy(rollover)
+            | Judging::BetweenBy(rollover) => Some(rollover),
             _ => None,
         }
     }

@@ -33,21 +33,23 @@ pub fn what_may_leave_a_host_is_judged_between()
         → (same_address x.client.address x.asked.address ≡ true) × (is_loopback x.client.address ≡ true) }
 {}
 
-/// A rollover is known where one is named at an end, and nowhere else.
+/// A rollover is known where one is named, and nowhere else.
 pub fn worked_rollovers()
     ensures client { (rollover : Rollover) → rollover_of (Judging.ClientBy rollover) ≡ Some rollover }
     ensures server { (rollover : Rollover) → rollover_of (Judging.ServerBy rollover) ≡ Some rollover }
+    ensures between { (rollover : Rollover) → rollover_of (Judging.BetweenBy rollover) ≡ Some rollover }
     ensures client_alone { rollover_of Judging.Client ≡ None }
     ensures server_alone { rollover_of Judging.Server ≡ None }
-    ensures between { rollover_of Judging.Between ≡ None }
+    ensures between_alone { rollover_of Judging.Between ≡ None }
     ensures where_recorded { rollover_of Judging.WhereRecorded ≡ None }
     ensures nowhere { rollover_of Judging.Nowhere ≡ None }
 {}
 
-/// Where a rollover is named, a transfer is judged at the end where it is named, and there alone.
-pub fn with_a_rollover_one_end_is_judged()
+/// Where a rollover is named, a transfer is judged at the point where it is named, and there alone.
+pub fn with_a_rollover_one_point_is_judged()
     ensures client { (x : Transfer) (rollover : Rollover) → points_of (Judging.ClientBy rollover) x ≡ record { client = true; server = false; between = false } }
     ensures server { (x : Transfer) (rollover : Rollover) → points_of (Judging.ServerBy rollover) x ≡ record { client = false; server = true; between = false } }
+    ensures between { (x : Transfer) (rollover : Rollover) → points_of (Judging.BetweenBy rollover) x ≡ record { client = false; server = false; between = true } }
 {}
 
 /// 127.0.0.1 and 127.255.255.254 never leave a host, nor does ::1; 126.0.0.1, 128.0.0.1, ::2 and 7f00::1 do.

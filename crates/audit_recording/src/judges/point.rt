@@ -1,7 +1,7 @@
 //! A transfer's judge at one point, where it is judged there.
 
 ghost use Rattle.std.specs.Prelude.{◌≡◌, ◌^◌, ◌<◌, ◌≤◌, ◌∷◌, ℕ, List, Option, length, is_some, IfSome, OnOk, Ok, false};
-ghost use Rattle.audit_recording.specs.Between.{IsBetweenAfter, given_to};
+ghost use Rattle.audit_recording.specs.Between.{IsBetweenAfterBy, given_to};
 ghost use Rattle.audit_flows.specs.Lines.{Placed};
 ghost use Rattle.audit_flows.specs.{Transfer};
 ghost use Rattle.audit_views.specs.Parties.{host_name};
@@ -78,7 +78,7 @@ impl<D: Delivered + Drop> PointJudge for BetweenView<D> {
 
     ghost counted = { given_to };
 
-    ghost stands = { λ rollover v name placed. name ≡ host_name → IsBetweenAfter v placed };
+    ghost stands = { λ rollover v name placed. name ≡ host_name → IsBetweenAfterBy rollover v placed };
 
     fn take(&mut self, alloc: Global, fed: &Fed<'_>) -> Result<(), AllocError> {
         self.feed(alloc, fed)

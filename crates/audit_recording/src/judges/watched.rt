@@ -1,7 +1,7 @@
 //! One transfer of a recording.
 
 ghost use Rattle.std.specs.Prelude.{◌≡◌, ◌≤◌, ◌∷◌, ℕ, List, [], length, option_copied, IfSome, OnOk, Err, false, true};
-ghost use Rattle.audit_recording.specs.Between.{between_capture, is_to_itself, sides_of, IsBetweenVerdict};
+ghost use Rattle.audit_recording.specs.Between.{between_capture, is_to_itself, sides_of, IsBetweenFoundBy};
 ghost use Rattle.audit_views.specs.Parties.{host_name};
 ghost use Rattle.audit_recording.specs.Judges.Kept.{AreRefusalsTold, AreTold, AreWants, IsCrowded, IsWatching};
 ghost use Rattle.audit_recording.specs.Judges.Points.{points_of, rollover_of};
@@ -151,7 +151,7 @@ impl<D: Delivered + Drop> Watched<D> {
             → IfSome result.server (IsFoundBy (rollover_of judging) (server_header x) (server_capture name x whole whole)) }
         ensures between { (judging : JudgingKind) (x : Transfer) (whole : List Placed) → IsWatching self judging x host_name whole
             → AreApart (sides_of x whole)
-            → IfSome result.between (λ said. IsBetweenVerdict (sides_of x whole) (between_capture x whole) said) }
+            → IfSome result.between (IsBetweenFoundBy (rollover_of judging) (sides_of x whole) (between_capture x whole)) }
         ensures to_itself { (judging : JudgingKind) (x : Transfer) (whole : List Placed) → IsWatching self judging x host_name whole
             → is_to_itself x whole ≡ true
             → IfSome result.between (λ said. said ≡ Err (TapRefusal.Incomplete (length (between_capture x whole)))) }

@@ -26,9 +26,9 @@ returns-clause-servers g c begun now file judging notes host clients told none a
     (are_of begun.file.now judging [] (once_ended told.recording all) all all told.tellings refl (record { next_frames = []; next_carried = []; frames = refl; datagrams = refl }) told.told.told)
 
 pub returns-clause-between : goal.returns-clause-between
-returns-clause-between g c begun now file judging notes clients told are addresses =
+returns-clause-between g c begun now file judging notes clients told plain are addresses =
     let all = so_far told.history told.carried told.noticed in
-    between_clear judging told.carried clients
+    between_clear judging told.carried plain clients
     (λ x v is_client known d t tells. c.no_row_accuses_between_where_a_client_is_lawful.ensures clients x told.carried d t v are addresses is_client known tells) begun.file.now told.tellings
     (are_of begun.file.now judging [] (once_ended told.recording all) all all told.tellings refl (record { next_frames = []; next_carried = []; frames = refl; datagrams = refl }) told.told.told)
 

@@ -31,6 +31,6 @@ returns-clause-judged c x named carried after watching =
           (c.finish-client.ensures.client judging x host_name (whole_of named carried) watching);
       server = c.at_server.ensures.is x named carried after.own points.server
           (c.finish-client.ensures.server judging x host_name (whole_of named carried) watching);
-      between = λ apart. c.between.ensures.is judging x named carried after.own after.between points.between apart
+      between = λ apart. c.between.ensures.is x named carried after.own after.between points.between apart
           (c.finish-client.ensures.between judging x (whole_of named carried) watching apart);
     }

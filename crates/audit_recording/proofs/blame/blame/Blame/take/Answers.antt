@@ -15,4 +15,4 @@ returns-clause-ends c judging x f whole frames are is about own ends all watchin
 pub returns-clause-between : goal.returns-clause-between
 returns-clause-between c judging x f whole frames are is about own ends all watching there =
     c.in_ok-take_between.ensures (rollover_of judging) x f whole frames (ap is_some c.between.ensures ∙ watching.points.between ∙ there) (are there) is about own ends all
-    (subst (λ j. BetweenStands j x host_name (f.placed ∷ whole)) (sym c.between.ensures) watching.judges.between)
+    (subst (λ j. BetweenStands (rollover_of judging) j x host_name (f.placed ∷ whole)) (sym c.between.ensures) watching.judges.between)

@@ -19,10 +19,10 @@ pub returns-clause-between : goal.returns-clause-between
 returns-clause-between g c rollover x whole after apart =
     let all : AreJudgesAfter rollover (record { client = c.self.inside.client; server = c.self.inside.server; between = c.self.inside.between; failed = c.self.inside.failed }) x host_name whole =
     subst (λ (j : Judges). AreJudgesAfter rollover j x host_name whole) (sym c.self.view_is) after in
-    c.said_between.ensures.found x whole all.works all.between apart
+    c.said_between.ensures.found rollover x whole all.works all.between apart
 
 pub returns-clause-to_itself : goal.returns-clause-to_itself
 returns-clause-to_itself g c rollover x whole after itself =
     let all : AreJudgesAfter rollover (record { client = c.self.inside.client; server = c.self.inside.server; between = c.self.inside.between; failed = c.self.inside.failed }) x host_name whole =
     subst (λ (j : Judges). AreJudgesAfter rollover j x host_name whole) (sym c.self.view_is) after in
-    c.said_between.ensures.to_itself x whole all.works all.between itself
+    c.said_between.ensures.to_itself rollover x whole all.works all.between itself
