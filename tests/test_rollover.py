@@ -484,16 +484,19 @@ class Pairs(Checks):
             self.check(f"few blocks, {given}", got == self.told(recording, recording), got)
 
 
+def told_by(script: str, given: bytes, *words: str) -> tuple[str, str, int]:
+    """What a script writes, what it writes as errors, and its status."""
+    done = subprocess.run([str(TOP / "tools" / script), *words], input=given, capture_output=True, timeout=300)
+    return done.stdout.decode(), done.stderr.decode(), done.returncode
+
+
 class Scripts(Checks):
     """What the scripts tell of made captures and recordings."""
 
     needs = (AUDIT, TRANSFERS)
 
     def told(self, script: str, given: bytes, *words: str) -> tuple[str, str, int]:
-        """What a script writes, what it writes as errors, and its status."""
-        command = [str(TOP / "tools" / script), "--program", AUDIT.path, "--transfers", TRANSFERS.path, *words]
-        done = subprocess.run(command, input=given, capture_output=True, timeout=300)
-        return done.stdout.decode(), done.stderr.decode(), done.returncode
+        return told_by(script, given, "--program", AUDIT.path, "--transfers", TRANSFERS.path, *words)
 
     def test_drawn(self) -> None:
         """A rung has the block beside a number that is another, and no block is a repeat of one with its number."""
@@ -531,7 +534,7 @@ class Scripts(Checks):
             self.check(f"JSON, {given}", f"block {block} by number {number}" in output, output)
 
     def test_recordings(self) -> None:
-        """A transfer of a recording is judged so at an end, and its file written; between the ends it is refused."""
+        """A transfer of a recording is judged so at an end and between the ends, and its file written."""
         for given in GIVEN:
             recording, folder = recorded(int(given)), self.folder / given
             accepted = f"accepted get octet blocks {COUNT} bytes {len(FILE)}"
@@ -552,19 +555,44 @@ class Scripts(Checks):
             accused = f"the server at {made.S}:41000, which sent the datagram."
             self.check(f"by the other, {given}", output.startswith("refused ") and accused in output, output)
             output, errors, status = self.told("tftp-explain", recording, "--rollover", given)
-            line = refusal(2 * ROUND, Rule.BEYOND_BLOCK_65535)
-            why = "tftp-explain: numbers that begin again are judged at an end alone: name the client or the server\n"
-            self.check(f"between, {given}", output.startswith(f"{line}\n") and (errors, status) == (why, 1), errors)
+            self.check(f"between, {given}", output.startswith(f"{accepted}\n") and (errors, status) == ("", 0), errors)
+            output, errors, status = self.told("tftp-explain", recording, "--rollover", other)
+            holds = output.startswith("refused ") and (errors, status) == ("", 1)
+            self.check(f"between, by the other, {given}", holds, (output, errors))
 
     def test_script_words(self) -> None:
         """What the word says, and with which others it does not go."""
         for script in ("tftp-ladder", "tftp-explain", "tftp-report"):
             output, errors, status = self.told(script, b"", "--rollover", "2")
             self.check(f"{script}, 2", (output, status) == ("", 2) and "argument --rollover: " in errors, errors)
-        for script in ("tftp-ladder", "tftp-explain"):
-            output, errors, status = self.told(script, b"", "--pair", "-", "/dev/null", "--rollover", "0")
-            why = f"{script}: of a pair there is no --rollover\n"
-            self.check(f"{script}, of a pair", (output, errors, status) == ("", why, 2), errors)
+
+
+class PairScripts(Checks):
+    """What the scripts tell of recordings of both ends."""
+
+    needs = (TRANSFERS, MATCH)
+
+    def test_pairs(self) -> None:
+        """Of a pair the captures of both ends are judged so, and each block has its own number."""
+        for given in GIVEN:
+            first, block = int(given), ROUND + 2
+            passed = passed_of(first)
+            place = 3 + 2 * (block - 1)
+            server = self.folder / "server.pcap"
+            server.write_bytes(made.file_of(passed))
+            programs = ("--transfers", TRANSFERS.path, "--match", MATCH.path)
+            words = (*programs, "--pair", "-", str(server), "--rollover", given)
+            output, errors, status = told_by("tftp-explain", made.file_of(passed), *words)
+            holds = "matched lost 0 repeated 0" in output and (errors, status) == ("", 0)
+            self.check(f"matched, {given}", holds, (output, errors, status))
+            other = list(passed)
+            content = b"\0" * SIZE
+            other[place] = Datagram(made.S, 41_000, made.C, 40_000, numbered(block, first, content)[0])
+            output, errors, status = told_by("tftp-explain", made.file_of(other), *words)
+            holds = f"block {block}" in output and (errors, status) == ("", 1)
+            self.check(f"changed, {given}", holds, (output, errors, status))
+            output, errors, status = told_by("tftp-ladder", made.file_of(other), *words, "--text")
+            self.check(f"a ladder, {given}", f"(block {block}, " in output and errors == "", (output[-2000:], errors))
 
 
 class Sent(OverLoopback):

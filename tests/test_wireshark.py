@@ -141,7 +141,7 @@ class Plugin(Checks):
         self.check("a place and a port", found == wanted, found)
 
     def test_rollover(self) -> None:
-        """What comes after block 65535 is a preference: by it is judged at an end what has more blocks."""
+        """What comes after block 65535 is a preference: by it is judged what has more blocks."""
         path = self.folder / "large.pcap"
         path.write_bytes(recorded(0))
         accepted, server = f"accepted get octet blocks {COUNT} bytes {len(FILE)}", "server 192.0.2.1:41000"
@@ -149,7 +149,7 @@ class Plugin(Checks):
         fields = ("tftp_audit.verdict", "tftp_audit.rule", "tftp_audit.doubt", "tftp_audit.accused")
         for place, first, row in (
             ("client", "block 0", (accepted, "", "", "")), ("client", "nothing", (beyond, "", "", server)),
-            ("between", "block 0", (beyond, "", "", server)),
+            ("between", "block 0", (accepted, "", "", "")), ("between", "nothing", (beyond, "", "", server)),
         ):
             words = ("-o", f"tftp_audit.place:{place}", "-o", f"tftp_audit.rollover:{first}", "-Y", "frame.number == 9")
             found = self.tshark.rows(path, *words, fields=fields)

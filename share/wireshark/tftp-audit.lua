@@ -78,7 +78,7 @@ local IS_WINDOWS = package.config:sub(1, 1) == "\\"
 audit.prefs.program = Pref.string("Program", "tftp-transfers", "The program tftp-transfers, where it is not on the path")
 audit.prefs.service = Pref.string("Service ports", "", "Ports to which requests go, beside 69, with spaces between")
 audit.prefs.place = Pref.enum("Recorded at", 0, "At which end recordings were made, or between the ends", PLACES, false)
-audit.prefs.rollover = Pref.enum("After block 65535", 0, "What comes after block 65535; more blocks are judged at an end", FIRSTS, false)
+audit.prefs.rollover = Pref.enum("After block 65535", 0, "What comes after block 65535", FIRSTS, false)
 audit.prefs.file = Pref.string("File", "", "The recording's file, where it is not found by itself")
 
 local fields = {
@@ -240,7 +240,7 @@ local function tell_apart(path, of_client)
     end
 end
 
--- The row of a transfer at an end where numbers begin again.
+-- The row of a transfer at a place where numbers begin again.
 local function row_by_rollover(path, number, place, first)
     for _, line in ipairs(lines_of(call("check --json --end " .. place .. " --rollover " .. first, path))) do
         local row = row_of(line)
@@ -250,14 +250,14 @@ local function row_by_rollover(path, number, place, first)
     end
 end
 
--- A row that refuses too many blocks at an end is told by what comes after block 65535, where that is said.
+-- A row that refuses too many blocks is told by what comes after block 65535, where that is said.
 local function told_by_rollover(path, row)
     local first = ({ [1] = 0, [2] = 1 })[audit.prefs.rollover]
-    if not first or row.rule ~= BEYOND or row.place == "between" then
+    if not first or row.rule ~= BEYOND then
         return row
     end
     local is_both = row.place == "both"
-    local it = row_by_rollover(path, row.number, row.place == "server" and "server" or "client", first)
+    local it = row_by_rollover(path, row.number, is_both and "client" or row.place, first)
     if is_both and it and it.verdict:match("^accepted ") then
         it = row_by_rollover(path, row.number, "server", first)
     end

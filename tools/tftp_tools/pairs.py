@@ -9,9 +9,10 @@ from dataclasses import dataclass
 from pathlib import Path
 from typing import Any, Optional
 
-from .capture import Capture, read_capture
+from .blocks import capture_by
+from .capture import Capture
 from .errors import Refused, read_file, told
-from .program import MATCH, OPTIONS, TRANSFERS, Verdict, ask, find_program
+from .program import MATCH, OPTIONS, TRANSFERS, Verdict, ask, by, find_program
 from .recording import ENDS, EndName, Recording, is_recording, named, objects
 
 NUMBER, WHY = "([1-9][0-9]*|-)", "(?: ([a-z]+))?"
@@ -50,9 +51,11 @@ class Pair:
     verdicts: dict[EndName, Verdict]
     line: str
     status: int
+    # what comes after block 65535, where that was said
+    rollover: str = ""
 
     def captures(self) -> dict[EndName, Capture]:
-        return {end: read_capture(text) for end, text in self.texts.items()}
+        return {end: capture_by(text, self.rollover) for end, text in self.texts.items()}
 
     def is_matched(self) -> bool:
         return bool(MATCHED.fullmatch(self.line))
@@ -114,7 +117,7 @@ class Sources:
         words = [f"{option}={number}" for option, number in named_here if number is not None]
         if not words and not self.has_recordings():
             return dict.fromkeys(ENDS)
-        words += [*named(self.asked.service), "--json", "--", *self.paths.values()]
+        words += [*named(self.asked.service), *by(self.asked.rollover), "--json", "--", *self.paths.values()]
         written, beside, status = ask(self.program, words, self.given)
         found = objects(written, numbers_in)
         if len(found) != 1:
@@ -134,33 +137,31 @@ class Sources:
         return Recording(path, given, tuple(map(str, self.asked.service)), transfers, "").text(number, end)
 
 
-def said(program: str, texts: dict[EndName, bytes]) -> tuple[list[str], int]:
+def said(program: str, texts: dict[EndName, bytes], rollover: str) -> tuple[list[str], int]:
     """The lines that the program prints of the two texts, and its status."""
     with tempfile.NamedTemporaryFile() as server, told(f"cannot run {program!r}"):
         server.write(texts["server"])
         server.flush()
-        command = [program, "-", server.name]
+        command = [program, *by(rollover), "-", server.name]
         done = subprocess.run(command, input=texts["client"], stdout=subprocess.PIPE, check=False)
     return done.stdout.decode("ascii", "backslashreplace").splitlines(), done.returncode
 
 
-def pair_of(program: str, texts: dict[EndName, bytes]) -> Pair:
-    lines, status = said(program, texts)
+def pair_of(program: str, texts: dict[EndName, bytes], rollover: str = "") -> Pair:
+    lines, status = said(program, texts, rollover)
     third = lines[2] if len(lines) == 3 else ""
     is_known = any(form.fullmatch(third) for form in (MATCHED, UNMATCHED, FAULT)) or third == ""
     if len(lines) not in (2, 3) or not is_known or status not in (0, 1, 2):
         raise Refused(f"{program!r} did not match the two: it printed {lines!r} and ended with status {status}")
     verdicts = {end: Verdict(line, status_of(line)) for end, line in zip(ENDS, lines)}
-    return Pair(texts, verdicts, third, status)
+    return Pair(texts, verdicts, third, status, rollover)
 
 
 def asked_pair(asked: argparse.Namespace) -> Pair:
     """The two captures that a script is asked for."""
     if asked.capture != "-" or asked.number is not None:
         raise Refused("--pair takes the place of FILE: name the client's capture and the server's alone")
-    if asked.rollover:
-        raise Refused("of a pair there is no --rollover")
     if asked.pair == ["-", "-"]:
         raise Refused("one of the two captures may come on standard input, and not both")
     sources = Sources(asked)
-    return pair_of(sources.program, sources.texts())
+    return pair_of(sources.program, sources.texts(), asked.rollover)

@@ -35,7 +35,6 @@ NUMBERS = ("number", "datagrams", "first_frame", "last_frame")
 # The rule that too many blocks break, and why nobody is accused where both ends have one address.
 BEYOND_BLOCK_65535 = 20
 EACH_ALONE = "both ends have one address, and where block numbers begin again each is judged alone"
-BETWEEN_NONE = "numbers that begin again are judged at an end alone: name the client or the server"
 
 
 class NoTransfer(Refused):
@@ -66,6 +65,8 @@ class Row:
     frame: Optional[int] = None
     accused: Optional[Accused] = None
     ended: str = ""
+    # what comes after block 65535, where it was judged by that
+    rollover: str = ""
 
     def is_refused(self) -> bool:
         return self.verdict.startswith("refused ")
@@ -157,7 +158,8 @@ def row_of(it: dict[str, Any]) -> Row:
     frame = int(it["frame"]) if it["frame"] is not None else None
     doubts, accused = tuple(map(str, it["doubts"])), accused_of(it["accused"])
     ended = ended_of(it["ended"]) if "ended" in it else ""
-    return Row(int(it["number"]), str(it["place"]), str(it["verdict"]), doubts, frame, accused, ended)
+    rollover = str(it["rollover"]) if it.get("rollover") is not None else ""
+    return Row(int(it["number"]), str(it["place"]), str(it["verdict"]), doubts, frame, accused, ended, rollover)
 
 
 def listed_of(it: dict[str, Any]) -> Listed:
@@ -192,9 +194,9 @@ def ends_at(place: str) -> tuple[EndName, ...]:
     return tuple(end for end in ENDS if end == place) or ENDS
 
 
-def ends_again(row: Row) -> tuple[EndName, ...]:
-    """The ends at which a row that refuses too many blocks is judged again; between the ends none is."""
-    return () if row.place == "between" else ends_at(row.place)
+def places_again(row: Row) -> tuple[PlaceName, ...]:
+    """The places at which a row that refuses too many blocks is judged again."""
+    return ("between",) if row.place == "between" else ends_at(row.place)
 
 
 def named(services: Sequence[str]) -> list[str]:
@@ -230,8 +232,6 @@ class Recording:
         rows = objects(written, row_of)
         if rows and self.rollover:
             rows = self.by_rollover(rows)
-            if any(row.place == "between" and is_beyond(row) for row in rows):
-                tell(script, BETWEEN_NONE)
             status = int(not all(row.is_accepted() for row in rows)) if status == 1 else status
         if rows:
             return rows, status
@@ -241,14 +241,14 @@ class Recording:
         raise refusal(beside[-1] if beside else f"{self.path}: there is no transfer in the recording")
 
     def by_rollover(self, rows: Sequence[Row]) -> list[Row]:
-        """The rows; those that refuse too many blocks at an end are judged there by what comes after block 65535."""
-        ends = {end for row in rows if is_beyond(row) for end in ends_again(row)}
-        judged = {end: self.rows_by_rollover(end) for end in sorted(ends)}
-        return [of_ends(row, [judged[end][row.number] for end in ends_again(row) if is_beyond(row)]) for row in rows]
+        """The rows; those that refuse too many blocks are judged at their places by what comes after block 65535."""
+        places = {place for row in rows if is_beyond(row) for place in places_again(row)}
+        judged = {place: self.rows_by_rollover(place) for place in sorted(places)}
+        return [of_ends(row, [judged[it][row.number] for it in places_again(row) if is_beyond(row)]) for row in rows]
 
-    def rows_by_rollover(self, end: EndName) -> dict[int, Row]:
-        """What is said at an end by what comes after block 65535, by the numbers of the transfers."""
-        written, beside, status = self.ask("check", "--json", "--end", end, "--rollover", self.rollover)
+    def rows_by_rollover(self, place: PlaceName) -> dict[int, Row]:
+        """What is said at a place by what comes after block 65535, by the numbers of the transfers."""
+        written, beside, status = self.ask("check", "--json", "--end", place, "--rollover", self.rollover)
         rows = objects(written, row_of)
         if not rows:
             why = beside[-1] if beside else f"{self.transfers!r} ended with status {status}"
@@ -283,7 +283,8 @@ class Recording:
     def row_between(self, number: int) -> Optional[Row]:
         """What is said between the ends of a transfer, without what is told beside."""
         rows = objects(self.ask("check", "--json", "--end", "between")[0], row_of)
-        return next((row for row in rows if row.number == number), None)
+        it = next((row for row in rows if row.number == number), None)
+        return self.by_rollover([it])[0] if it and self.rollover else it
 
     def listed(self) -> list[Listed]:
         """The transfers."""
@@ -302,7 +303,7 @@ class Recording:
         """What the row says, at the place of which it says so: of both ends the one whose verdict it has."""
         if row.place == "between":
             verdict = Verdict(row.verdict, int(not row.is_accepted()))
-            return Judged(self.text(row.number, "client"), verdict, row.doubts, row, "between")
+            return Judged(self.text(row.number, "client"), verdict, row.doubts, row, "between", row.rollover)
         for rollover in dict.fromkeys(("", self.rollover)):
             for end in ends_at(row.place):
                 it = self.judged_by(row, end, rollover)
@@ -315,10 +316,10 @@ class Recording:
         """The text of an accepted transfer that has its file: between the ends that of an end which is accepted too."""
         if judged.row is None or not judged.is_between():
             return judged.text
-        if check(self.audit, judged.text) == judged.verdict:
+        if check(self.audit, judged.text, judged.rollover) == judged.verdict:
             return judged.text
         text = self.text(judged.row.number, "server")
-        return text if check(self.audit, text) == judged.verdict else None
+        return text if check(self.audit, text, judged.rollover) == judged.verdict else None
 
 
 def of_ends(row: Row, judged: Sequence[Row]) -> Row:

@@ -21,7 +21,7 @@ def add_programs(parser: argparse.ArgumentParser) -> None:
     parser.add_argument("--service", action="append", default=[], metavar="PORT", help="a port to which requests go in"
                         " the recording, beside 69; may be given several times")
     parser.add_argument("--rollover", choices=FIRSTS, default="", metavar="N", help="what comes after block 65535, 0 or"
-                        " 1, at an end; without it such a block is refused")
+                        " 1; without it such a block is refused")
     for name in (AUDIT, TRANSFERS):
         where = f"the program {name}, where it is not found by itself"
         parser.add_argument(OPTIONS[name], metavar="PATH", help=where)

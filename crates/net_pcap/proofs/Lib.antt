@@ -3,6 +3,7 @@ pub mod Bodies
 pub mod Cuts
 pub mod Fours
 pub mod Fronts
+pub mod Lossless
 pub mod OneFault
 pub mod OneFrame
 pub mod OneReading

@@ -1,7 +1,7 @@
 -- Bytes are a recording in one way.
 use Rattle.std.proofs.Common.{◌≡◌, inl, inr, ℕ, ◌+◌, ◌%◌, ◌<◌, ◌≤◌, List, [], ◌∷◌, ◌++◌, length, length-append, take, refl, sym, ap, ◌∙◌, subst, append_assoc, append-nil, arith, flat_map}
 use Rattle.std.specs.List.{slice_range}
-use Rattle.net_pcap.specs.{number_at, Spells, FrameParts, magic, major, SpellsHeader, SpellsRecord, SpellsSection, Said, Says, BodySays, BlockSays, OpensAs, OpensAgain, Mode, Announces, BeginsAsOne, IsSize, Follows, IsRecording, next_mode, given, start, IsIrregular, IsTooLong, IsPart, Stops, FailsAs, IsWrong, FaultKind, NotARecording, Truncated, Bad, TooLong, TooMany, Read, Memory, Order, Interface, NamedInterface, Layout, Unopened}
+use Rattle.net_pcap.specs.{number_at, Spells, FrameParts, magic, major, SpellsHeader, SpellsRecord, SpellsSection, Said, Says, BodySays, BlockSays, OpensAs, OpensAgain, Mode, Announces, BeginsAsOne, IsSize, Follows, IsRecording, next_mode, given, start, IsIrregular, IsTooLong, IsPart, Stops, FailsAs, IsWrong, FaultKind, NotARecording, Truncated, Bad, TooLong, TooMany, Read, Memory, Order, NamedInterface, Layout, Unopened}
 use Rattle.net_pcap.specs.Pieces.Said.{Opens, Names, Gives, Counts, Skips}
 use Rattle.net_pcap.specs.declared.layout.Classic.{Classic as Header}
 use Rattle.net_pcap.specs.declared.layout.Layout.TheVariants.{Classic, Blocks}
@@ -29,7 +29,7 @@ header_length s classic p =
       spells_length classic.order p.rest (p.zone ∷ p.figures ∷ p.longest ∷ p.link ∷ []) p.numbers,
     )
 
-header_magic : (s : List ℕ) (classic : Header) → SpellsHeader s classic → take 4 s ≡ magic classic.order classic.nano
+pub header_magic : (s : List ℕ) (classic : Header) → SpellsHeader s classic → take 4 s ≡ magic classic.order classic.nano
 header_magic s classic p = ap (take 4) p.are ∙ whole (magic classic.order classic.nano) _ (magic_length classic.order classic.nano)
   where
     whole : (a b : List ℕ) → length a ≡ 4 → take 4 (a ++ b) ≡ a

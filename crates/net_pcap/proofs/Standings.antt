@@ -118,7 +118,7 @@ module _ (old : ReaderState) (pieces new : PiecesState) (count : ℕ) (before af
       → Continues (record { pieces = new; count = count; standing = Failed (record { kind = kind; frame = count + 1 }) }) (prepend_known old.pieces.ahead before) (prepend_known new.ahead after) (Err (record { kind = kind; frame = count + 1 })) parts bytes frames
   continues_fault kind tells =
       let (taken, consumed, goes) = tells bytes frames open_now.0 in
-      record { taken = taken; consumed = consumed_now taken consumed; stands = record { fails = goes; number = ap (λ n. n + 1) open_now.1 } }
+      record { taken = taken; consumed = consumed_now taken consumed; stands = (record { fails = goes.0; number = ap (λ n. n + 1) open_now.1 }, goes.1) }
 
   pub short_fault : (room : ℕ) → ((more : List ℕ) (given_before : List FrameParts) → Stands more pieces.mode pieces.count given_before
       → (taken : List ℕ) × Consumes (prepend_known pieces.ahead before) (prepend_known new.ahead after) taken × RunsOut room pieces.room (more ++ taken) given_before)

@@ -1,5 +1,5 @@
 -- Statistics blocks, from the bytes at their places, and what is lost by them.
-use Rattle.std.proofs.Common.{◌≡◌, ℕ, zero, suc, ◌+◌, ◌-◌, ◌<◌, ◌≤◌, List, [], ◌∷◌, ◌++◌, length, length-append, append-nil, take, drop, get_or, min, max, refl, sym, ap, ◌∙◌, subst, arith, slice_set, slice_index_or}
+use Rattle.std.proofs.Common.{◌≡◌, ℕ, zero, suc, ◌+◌, ◌-◌, ◌<◌, ◌≤◌, List, [], ◌∷◌, ◌++◌, length, length-append, append-nil, take, drop, get_or, refl, sym, ap, ◌∙◌, subst, arith, slice_set, slice_index_or}
 use Rattle.std.proofs.lemmas.List.{take_all}
 use Rattle.std.proofs.lemmas.Grind.{common_steps}
 use Rattle.net_pcap.specs.{four, number_at, Spells, OptionParts, SpellsOptions, first_value, SpellsStatistics, capped, counter_by, changed, lost_at, lost_in, Dropped, NamedInterface, Order}

@@ -3,7 +3,7 @@ use Rattle.std.proofs.Common.{◌≡◌, ◌≤◌, ◌<◌, ◌^◌, inl, inr, 
 use Rattle.std.specs.Io.KnownBytes.{prepend_known, Consumes}
 use Rattle.std.proofs.KnownBytes.{Consumes-trans}
 use Rattle.std.proofs.lemmas.Grind.{flat_map-append}
-use Rattle.net_pcap.specs.{FrameParts, Said, Says, Mode, Follows, Stands, IsRecordingTo, next_mode, given, said_of, FailsAs, RunsOut, IsLonger, FrontEnds, RestEnds, Stops, PiecesState, StepEnds, WantsMemory, Found, Interface, FaultKind, NotARecording, Truncated, Bad, TooMany, Read, Memory}
+use Rattle.net_pcap.specs.{FrameParts, Said, Says, Mode, Follows, Stands, IsRecordingTo, next_mode, given, said_of, FailsAfter, RunsOut, IsLonger, FrontEnds, RestEnds, Stops, PiecesState, StepEnds, WantsMemory, Found, Interface, FaultKind, NotARecording, Truncated, Bad, TooMany, Read, Memory}
 use Rattle.net_pcap.specs.declared.found.Found.TheVariants as found
 
 pub stops_of : (kind : FaultKind) (mode : Mode) (count : ℕ) (part : List ℕ) → FrontEnds mode.layout (Err kind) part → Stops kind mode count part
@@ -111,5 +111,5 @@ module _ (bytes taken more piece : List ℕ) (frames : List FrameParts) (old new
     record { good = bytes ++ taken; part = more; mode = old.mode; count = old.count; are = sym (append_assoc bytes taken more); stands = goes; rest = wants_more low room few places old.mode more roomier further (subst (WantsMemory room places old.mode) (sym is) wants) },
   )
 
-  pub reach_fault : (kind : FaultKind) → Stops kind old.mode old.count more → (all : List ℕ) × Consumes start end all × FailsAs (bytes ++ all) frames kind
-  reach_fault kind stops = (taken ++ more, both, record { good = bytes ++ taken; part = more; mode = old.mode; count = old.count; are = sym (append_assoc bytes taken more); stands = goes; rest = stops })
+  pub reach_fault : (kind : FaultKind) → new.mode ≡ old.mode → Stops kind old.mode old.count more → (all : List ℕ) × Consumes start end all × FailsAfter new.mode (bytes ++ all) frames kind
+  reach_fault kind kept stops = (taken ++ more, both, (record { good = bytes ++ taken; part = more; mode = old.mode; count = old.count; are = sym (append_assoc bytes taken more); stands = goes; rest = stops }, sym kept))

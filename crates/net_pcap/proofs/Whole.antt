@@ -4,7 +4,7 @@ use Rattle.std.specs.List.{slice_range}
 use Rattle.std.proofs.lemmas.List.Folds.{drop_split}
 use Rattle.std.proofs.lemmas.List.{length-take-le, length-drop, drop-take}
 use Rattle.std.proofs.lemmas.Grind.{common_steps}
-use Rattle.net_pcap.specs.{four, two, number_at, short_at, Spells, FrameParts, frame_at, SpellsBlock, SpellsSection, section_type, order_magic, longest_block, Said, BodySays, BlockSays, Interface, NamedInterface, Big, Little, Order, Place}
+use Rattle.net_pcap.specs.{four, two, number_at, short_at, Spells, FrameParts, frame_at, SpellsBlock, SpellsSection, section_type, order_magic, longest_block, Said, BodySays, BlockSays, NamedInterface, Big, Little, Order, Place}
 use lib.Seq.{take-add}
 use Rattle.net_pcap.proofs.Cuts.{drop_twice, three_parts, length-slice_range, cut_one}
 use Rattle.net_pcap.proofs.Fours.{spells_one, spells_length}

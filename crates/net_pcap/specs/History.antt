@@ -24,6 +24,10 @@ pub record EndsIn (P : Mode → ℕ → List ℕ → Type 0) (bytes : List ℕ) 
 abbrev pub FailsAs : List ℕ → List FrameParts → FaultKind → Type 0
 FailsAs bytes frames kind = EndsIn (Stops kind) bytes frames
 
+-- the same, and this is known after the whole pieces
+abbrev pub FailsAfter : Mode → List ℕ → List FrameParts → FaultKind → Type 0
+FailsAfter mode bytes frames kind = (fails : FailsAs bytes frames kind) × (fails.mode ≡ mode)
+
 -- then some of a piece for which memory is wanted, where there is room for so many bytes of a piece and for so many interfaces
 abbrev pub RunsOut : ℕ → ℕ → List ℕ → List FrameParts → Type 0
 RunsOut room places bytes frames = EndsIn (λ mode count part. WantsMemory room places mode part) bytes frames
@@ -42,13 +46,13 @@ IsWrong Memory = ⊥
 abbrev pub PlaceTells : Result (Option Place) FaultKind → PiecesState → List ℕ → List ℕ → List FrameParts → Type 0
 PlaceTells (Ok (Some place)) state piece bytes frames = Stands bytes state.mode state.count (frames ++ frame_at place piece ∷ [])
 PlaceTells (Ok None) state piece bytes frames = IsRecordingTo state.mode bytes frames
-PlaceTells (Err kind) state piece bytes frames = FailsAs bytes frames kind
+PlaceTells (Err kind) state piece bytes frames = FailsAfter state.mode bytes frames kind
 
 -- the same, once the frame is in what the caller holds
 abbrev pub FillTells : Result Bool FaultKind → PiecesState → FrameParts → List ℕ → List FrameParts → Type 0
 FillTells (Ok true) state frame bytes frames = Stands bytes state.mode state.count (frames ++ frame ∷ [])
 FillTells (Ok false) state frame bytes frames = IsRecordingTo state.mode bytes frames
-FillTells (Err kind) state frame bytes frames = FailsAs bytes frames kind
+FillTells (Err kind) state frame bytes frames = FailsAfter state.mode bytes frames kind
 
 -- ---- the reader
 
@@ -67,7 +71,7 @@ pub record FailsIn (bytes : List ℕ) (frames : List FrameParts) (fault : PcapFa
 abbrev pub StandingTells : Standing PcapFault → ReaderState → List ℕ → List FrameParts → Type 0
 StandingTells Open reader bytes frames = Stands bytes reader.pieces.mode reader.pieces.count frames × (reader.count ≡ length frames)
 StandingTells Over reader bytes frames = IsRecordingTo reader.pieces.mode bytes frames
-StandingTells (Failed fault) reader bytes frames = FailsIn bytes frames fault
+StandingTells (Failed fault) reader bytes frames = (failed : FailsIn bytes frames fault) × (failed.fails.mode ≡ reader.pieces.mode)
 
 -- The reader stands for a history: it took these bytes, and gave these frames, in order.
 abbrev pub StandsFor : ReaderState → List ℕ → List FrameParts → Type 0

@@ -1,5 +1,5 @@
 -- A recording is pieces, one after another: a header, and records; or blocks. What each says, by what stood before it.
-use Rattle.std.specs.Prelude.{◌≡◌, ◌≢◌, ◌+◌, ◌%◌, ◌<◌, ◌≤◌, ◌⊎◌, ◌^◌, ℕ, Bool, List, [], ◌∷◌, ◌++◌, length, take, flat_map}
+use Rattle.std.specs.Prelude.{◌≡◌, ◌≢◌, ◌+◌, ◌%◌, ◌<◌, ◌≤◌, ◌⊎◌, ◌^◌, ℕ, Bool, true, false, List, [], ◌∷◌, ◌++◌, length, take, flat_map}
 use Rattle.std.specs.List.{slice_range}
 use Rattle.net_pcap.specs.Numbers.{Spells, number_at}
 use Rattle.net_pcap.specs.Frames.{FrameParts, frame_at, longest_frame}
@@ -69,6 +69,16 @@ pub record Mode : Type 0 where
 abbrev pub start : Mode
 start = record { layout = Unopened; sections = 0; before = 0; interfaces = [] }
 
+-- the bytes begin as a classic recording does (draft-ietf-opsawg-pcap, section 4)
+abbrev pub BeginsAsClassic : List ℕ → Type 0
+BeginsAsClassic bytes = (order : Order) × (nano : Bool) × (take 4 bytes ≡ magic order nano)
+
+-- whether a recording that is laid out so may say that packets were lost: blocks may, and records have no place for it
+abbrev pub may_lose : Layout → Bool
+may_lose Unopened = true
+may_lose (Classic classic) = false
+may_lose (Blocks order) = true
+
 -- how many packets the recorder lost up to here, as it says
 abbrev pub lost_of : Mode → ℕ
 lost_of mode = capped (mode.before + lost_in mode.interfaces)
@@ -119,7 +129,7 @@ IsRecordingTo mode bytes frames = (is : IsRecording bytes frames) × (is.mode �
 
 -- the bytes begin as a recording does
 abbrev pub BeginsAsOne : List ℕ → Type 0
-BeginsAsOne bytes = (take 4 bytes ≡ section_type) ⊎ ((order : Order) × (nano : Bool) × (take 4 bytes ≡ magic order nano))
+BeginsAsOne bytes = (take 4 bytes ≡ section_type) ⊎ BeginsAsClassic bytes
 
 -- a section header tells its length in its own order
 abbrev pub AnnouncesSection : List ℕ → ℕ → Type 0

@@ -1,8 +1,8 @@
-ghost use Rattle.std.specs.Prelude.{◌≡◌, ℕ, List, [], ◌∷◌};
+ghost use Rattle.std.specs.Prelude.{◌≡◌, ◌++◌, ℕ, List, [], ◌∷◌, false};
 ghost use Rattle.net_pcap.specs.Frames.{FrameParts};
-ghost use Rattle.net_pcap.specs.Pieces.{IsRecording, Mode, Said, lost_of, next_mode};
+ghost use Rattle.net_pcap.specs.Pieces.{BeginsAsClassic, IsRecording, Mode, Said, lost_of, may_lose, next_mode};
 ghost use Rattle.net_pcap.specs.Blocks.{SpellsStatistics};
-ghost use Rattle.net_pcap.specs.History.{FailsAs, IsWrong};
+ghost use Rattle.net_pcap.specs.History.{FailsAs, IsWrong, ReaderState, StandsFor};
 ghost use Rattle.net_pcap.specs.declared.layout.Layout.{Layout};
 ghost use Rattle.net_pcap.specs.declared.numbers.Order.{Order};
 ghost use Rattle.net_pcap.specs.declared.fault.FaultKind.{FaultKind};
@@ -21,6 +21,14 @@ pub fn fault_is_in_no_recording()
 /// Bytes have one fault of the recording: the same frames come before it, and so it is at the same frame, and of one kind.
 pub fn fault_is_one()
     ensures { (bytes : List ℕ) (some others : List FrameParts) (one other : FaultKind) → IsWrong one → IsWrong other → FailsAs bytes some one → FailsAs bytes others other → (some ≡ others) × (one ≡ other) }
+{}
+
+/// A recording that can't say that packets were lost is a classic one by its first bytes, and a classic one says of none that it was lost: so
+/// it is once it is read, in part or whole, and at its fault.
+pub fn classic_recordings_lose_nothing()
+    ensures begins { (reader : ReaderState) (bytes : List ℕ) (frames : List FrameParts) → StandsFor reader bytes frames → may_lose reader.pieces.mode.layout ≡ false → BeginsAsClassic bytes }
+    ensures loses { (reader : ReaderState) (bytes : List ℕ) (frames : List FrameParts) → StandsFor reader bytes frames → BeginsAsClassic bytes → lost_of reader.pieces.mode ≡ 0 }
+    ensures goes_on { (bytes more : List ℕ) → BeginsAsClassic bytes → BeginsAsClassic (bytes ++ more) }
 {}
 
 /// A worked frame, an ACK, recorded by tcpdump and written by editcap of Wireshark: as a classic recording, and in blocks.

@@ -26,8 +26,8 @@ mod times;
 pub use fault::{FaultKind, PcapFault};
 pub use frame::{Direction, Frame};
 pub use laws::{
-    fault_is_in_no_recording, fault_is_one, recording_has_one_reading, worked_losses,
-    worked_recordings,
+    classic_recordings_lose_nothing, fault_is_in_no_recording, fault_is_one,
+    recording_has_one_reading, worked_losses, worked_recordings,
 };
 pub use layout::{Classic, Dropped, Interface, Layout, NamedInterface};
 pub use numbers::Order;

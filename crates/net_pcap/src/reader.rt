@@ -1,7 +1,7 @@
 ghost use Rattle.std.specs.Prelude.{◌≡◌, ◌≢◌, ◌+◌, ◌<◌, ◌≤◌, ◌⊎◌, ◌^◌, ◌++◌, ℕ, List, [], length, true, false, Ok, Err, IfOk, IfErr, OnOk};
 ghost use Rattle.std.specs.Io.KnownBytes.{prepend_known, Consumes, IsAtEnd};
 ghost use Rattle.net_pcap.specs.Frames.{FrameParts};
-ghost use Rattle.net_pcap.specs.Pieces.{lost_of, start};
+ghost use Rattle.net_pcap.specs.Pieces.{lost_of, may_lose, start};
 ghost use Rattle.net_pcap.specs.History.{Continues, FailsToBegin, RunsOut, StandsFor};
 ghost use Rattle.net_streams.specs.Streams.{KeepsAnswer, standing_after};
 
@@ -128,6 +128,15 @@ impl FrameReader {
         ensures { result ≡ lost_of self.now.pieces.mode }
     {
         self.pieces.lost()
+    }
+
+    /// Whether the recording may say, here or later on, that packets were lost: one in blocks may, a classic one has no place
+    /// for it.
+    #[inline]
+    pub fn may_lose(&self) -> bool
+        ensures { result ≡ may_lose self.now.pieces.mode.layout }
+    {
+        self.pieces.may_lose()
     }
 
     /// How many frames were read.

@@ -1,8 +1,8 @@
-ghost use Rattle.std.specs.Prelude.{◌≡◌, ◌≢◌, ◌+◌, ◌<◌, ◌≤◌, ◌⊎◌, ◌^◌, ℕ, List, [], length, vec_len, vec_capacity, true, false, None, Some, Ok, Err, IfOk, IfSome};
+ghost use Rattle.std.specs.Prelude.{◌≡◌, ◌≢◌, ◌+◌, ◌<◌, ◌≤◌, ◌⊎◌, ◌^◌, ℕ, List, [], length, vec_len, vec_capacity, true, false, None, Some, Ok, Err, IfErr, IfOk, IfSome};
 ghost use Rattle.std.specs.Io.KnownBytes.{prepend_known, Consumes, IsAtEnd};
 ghost use Rattle.net_pcap.specs.declared.layout.Interface.{Interface};
 ghost use Rattle.net_pcap.specs.declared.found.Found.{Found};
-ghost use Rattle.net_pcap.specs.Pieces.{LiesWithin, lost_of, next_mode, said_of, start};
+ghost use Rattle.net_pcap.specs.Pieces.{LiesWithin, lost_of, may_lose, next_mode, said_of, start};
 ghost use Rattle.net_pcap.specs.Stopping.{StepEnds, WantsMemory};
 
 use crate::fault::FaultKind;
@@ -70,6 +70,14 @@ impl Pieces {
         self.lost
     }
 
+    /// Whether the recording may say, here or later on, that packets were lost: a classic one never does.
+    #[inline]
+    pub fn may_lose(&self) -> bool
+        ensures { result ≡ may_lose self.now.mode.layout }
+    {
+        !matches!(self.layout, Layout::Classic(_))
+    }
+
     /// Takes what a piece says; false where there is no memory for a further interface.
     fn take(&mut self, found: Found) -> bool
         requires { self.old.count < 2 ^ 40 }
@@ -81,6 +89,7 @@ impl Pieces {
         ensures stays { self.old.count ≤ self.new.count }
         ensures few { self.new.count ≤ 2 ^ 40 }
         ensures named { result ≡ false → (interface : Interface) × (found ≡ Found.Names interface) }
+        ensures kept { result ≡ false → self.new.mode ≡ self.old.mode }
     {
         match found {
             Found::Opens(layout) => {
@@ -134,6 +143,7 @@ impl Pieces {
         ensures memory { result ≡ Err FaultKind.Memory → WantsMemory (vec_capacity piece.old) self.old.room self.old.mode piece.new.items }
         ensures roomy { vec_capacity piece.old ≤ vec_capacity piece.new }
         ensures places { self.old.room ≤ self.new.room }
+        ensures kept { IfErr result (λ _. self.new.mode ≡ self.old.mode) }
     {
         if self.count == MOST_PIECES {
             return Err(FaultKind::TooMany);

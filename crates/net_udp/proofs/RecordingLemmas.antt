@@ -5,6 +5,7 @@ pub mod Discarding
 pub mod Gathering
 pub mod Keys
 pub mod Liking
+pub mod Lossless
 pub mod KeptOnce
 pub mod OneFate
 pub mod OneWay

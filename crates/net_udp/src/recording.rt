@@ -14,7 +14,8 @@ pub use crate::frames::Checksum;
 pub use event::Event;
 pub use fate::{Datagram, Fate, LeftOut};
 pub use laws::{
-    content_is_of_its_frames, each_frame_is_accounted_for_once, recording_is_read_in_one_way,
-    worked_copies, worked_discarded, worked_fragments, worked_overlap, worked_protocols,
+    classic_recordings_lose_nothing, content_is_of_its_frames, each_frame_is_accounted_for_once,
+    recording_is_read_in_one_way, worked_copies, worked_discarded, worked_fragments,
+    worked_overlap, worked_protocols,
 };
 pub use reader::RecordingReader;

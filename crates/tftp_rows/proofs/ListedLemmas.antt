@@ -271,8 +271,8 @@ module _ {W : Type 0} (contents : W → Option (List ℕ)) where
     prints = subst (λ (p : RowPrinter W). PrintsPart contents list_lines begun.printer p []) (sym same) (prints_all_so contents list_lines begun.printer begun.printer [] (prints_nothing contents list_lines begun.printer));
   }
 
-  stopped : (begun now : Lister W) (file left : Option (List ℕ)) (recording : RecordingState) (named : List ℕ) (history : List Step) (carried : List Carried) (s : Noticed)
-      → (bytes : List ℕ) × Consumes file left bytes × StandsFor recording bytes history → IsNoticedOf named history carried s → IsPart begun now named None (so_far history carried s)
+  stopped : {Q : List ℕ → Type 0} (begun now : Lister W) (file left : Option (List ℕ)) (recording : RecordingState) (named : List ℕ) (history : List Step) (carried : List Carried) (s : Noticed)
+      → (bytes : List ℕ) × Consumes file left bytes × StandsFor recording bytes history × Q bytes → IsNoticedOf named history carried s → IsPart begun now named None (so_far history carried s)
       → IsRecordingListedInPart contents begun now file named
   stopped begun now file left recording named history carried s read came part = record {
     history = history;
@@ -289,16 +289,16 @@ module _ {W : Type 0} (contents : W → Option (List ℕ)) where
   }
 
   -- what was read before was listed as it should be
-  pub stops_listing : (begun now : Lister W) (file left : Option (List ℕ)) (recording : RecordingState) (session : Session) (named : List ℕ)
-      → IsListedOn contents begun now (λ history. (bytes : List ℕ) × Consumes file left bytes × StandsFor recording bytes history) session named
+  pub stops_listing : {Q : List ℕ → Type 0} (begun now : Lister W) (file left : Option (List ℕ)) (recording : RecordingState) (session : Session) (named : List ℕ)
+      → IsListedOn contents begun now (λ history. (bytes : List ℕ) × Consumes file left bytes × StandsFor recording bytes history × Q bytes) session named
       → IsRecordingListedInPart contents begun now file named
   stops_listing begun now file left recording session named is =
       stopped begun now file left recording named is.history is.carried is.noticed is.read is.session_is.noticed
       (all_so begun now named None (so_far is.history is.carried is.noticed) is.entries is.has_listed)
 
   -- what is over is listed, and the last one in part
-  pub stops_over : (begun old new : Lister W) (file left : Option (List ℕ)) (recording : RecordingState) (before : Session) (named : List ℕ)
-      → (is : IsListedOn contents begun old (λ frames. (bytes : List ℕ) × Consumes file left bytes × StandsFor recording bytes frames) before named)
+  pub stops_over : {Q : List ℕ → Type 0} (begun old new : Lister W) (file left : Option (List ℕ)) (recording : RecordingState) (before : Session) (named : List ℕ)
+      → (is : IsListedOn contents begun old (λ frames. (bytes : List ℕ) × Consumes file left bytes × StandsFor recording bytes frames × Q bytes) before named)
       → ListsTurnsPart contents (λ b. IsOldestOver b named is.carried is.noticed) old new named (numbers_in is.entries) is.history is.carried is.noticed
       → IsRecordingListedInPart contents begun new file named
   stops_over begun old new file left recording before named is turns =
@@ -318,8 +318,8 @@ module _ {W : Type 0} (contents : W → Option (List ℕ)) where
 
   -- ---- the recording is closed
 
-  pub closed_listing : (begun now : Lister W) (file left : Option (List ℕ)) (recording : RecordingState) (before after : Session) (named : List ℕ)
-      → IsListedOn contents begun now (λ history. (bytes : List ℕ) × Consumes file left bytes × StandsFor recording bytes history) before named
+  pub closed_listing : {Q : List ℕ → Type 0} (begun now : Lister W) (file left : Option (List ℕ)) (recording : RecordingState) (before after : Session) (named : List ℕ)
+      → IsListedOn contents begun now (λ history. (bytes : List ℕ) × Consumes file left bytes × StandsFor recording bytes history × Q bytes) before named
       → (standing_of recording ≡ Standing.Over → IsAtEnd left) → HasEnded recording before.notes → after.notes.fault ≡ before.notes.fault
       → ((out : List ℕ) (history : List Step) (carried : List Carried) (s : Noticed) → IsSessionAfter before named out history carried s → IsSessionClosed after recording named out history carried s)
       → IsListedThrough contents begun now file after named

@@ -19,7 +19,7 @@ use Rattle.tftp_rows.specs.Telling.{JudgesAs, PrintsAllWith, PrintsPartWith, Tel
 use Rattle.tftp_rows.specs.Whole.{HasTold, HasToldAll, HasToldInPart, HasToldPart, IsPartOf, IsReadAndTold, IsReadInPart, IsReadOn, IsReadThrough, IsRecordingTold, IsRecordingToldInPart, Part, Telling, numbers_of, once_ended, so_far}
 use Rattle.tftp_rows.specs.declared.teller.Teller.{Teller}
 use Rattle.tftp_rows.proofs.OrderLemmas.{are_in_order, told_longer}
-use Rattle.tftp_rows.proofs.WholeLemmas.{all_part_next, all_so_far, has_told, has_told_all, held_in_part, held_told, loses_too, nothing_told, told_in_turn, told_part, told_so_far}
+use Rattle.tftp_rows.proofs.WholeLemmas.{HasToldSo, all_part_next, all_so_far, has_told_all, has_told_so, held_in_part, held_told, loses_too, nothing_told, told_in_turn, told_part, told_so_far}
 
 pub frame_came : (P : List Step → List Carried → Noticed → Type 0) (history : List Step) (carried : List Carried) (s : Noticed) (goes : Bool) → goes ≡ true
     → ReadsOn P history carried s (Ok goes) → (step : Step) × (all : List Carried) × (t : Noticed) × IsOneMore carried all × P (step ∷ history) all t
@@ -49,14 +49,14 @@ one_frame_more n step history le = grind arith
 at_least : (m n k : ℕ) → m ≤ n → n ≤ k → m ≤ k
 at_least m n k le many = grind arith
 
-pub many_frames : (file left : Option (List ℕ)) (recording : RecordingState) (history : List Step) (n : ℕ) → (bytes : List ℕ) × Consumes file left bytes × StandsFor recording bytes history → n ≤ length history
+pub many_frames : {Q : List ℕ → Type 0} (file left : Option (List ℕ)) (recording : RecordingState) (history : List Step) (n : ℕ) → (bytes : List ℕ) × Consumes file left bytes × StandsFor recording bytes history × Q bytes → n ≤ length history
     → 2 ^ 64 - 1 ≤ n → HasManyFrames file
 many_frames file left recording history n read many enough = (history, inr (recording, read.0, left, read.1, read.2), at_least (2 ^ 64 - 1) n (length history) enough many)
 
-module _ {W : Type 0} (contents : W → Option (List ℕ)) where
+module _ {W : Type 0} (contents : W → Option (List ℕ)) (lose : Bool) where
   -- so many frames at least were read, and told as they should be
   abbrev pub IsReadOnFor : ℕ → Teller W → Teller W → (List Step → Type 0) → Session → List ℕ → Type 0
-  IsReadOnFor n begun now Is session named = (so : IsReadOn contents begun now Is session named) × (n ≤ length so.0)
+  IsReadOnFor n begun now Is session named = (so : IsReadOn contents begun now lose Is session named) × (n ≤ length so.0)
 
   -- what was told stays so with the next frame
   part_on : (step : Step) (history : List Step) (carried all : List Carried) (s t : Noticed) → IsOneMore carried all → IsPartOf (so_far history carried s) (so_far (step ∷ history) all t)
@@ -64,7 +64,7 @@ module _ {W : Type 0} (contents : W → Option (List ℕ)) where
   part_on step history carried all s t (inr more) = record { next_frames = step ∷ []; next_carried = more.0 ∷ []; frames = refl; datagrams = more.1 }
 
   pub told_on : (begun now : Teller W) (judging : Judging) (named : List ℕ) (all longer : Part) (ts : List Telling) → IsPartOf all longer
-      → HasTold contents begun now judging named all ts → HasTold contents begun now judging named longer ts
+      → HasTold contents begun now lose judging named all ts → HasTold contents begun now lose judging named longer ts
   told_on begun now judging named all longer ts more h = record {
     told = told_longer begun.file.now judging named None all longer ts more h.told;
     printed = h.printed;
@@ -74,36 +74,37 @@ module _ {W : Type 0} (contents : W → Option (List ℕ)) where
     number = h.number;
     status = h.status;
     dropped = h.dropped;
+    calm = h.calm;
   }
 
   -- before the first frame
   pub begins_reading : (begun : Teller W) (Is : List Step → Type 0) (session : Session) (named : List ℕ) → begun.held.items ≡ [] → begun.told ≡ 0 → Is [] → IsSessionAfter session named [] [] [] nothing_noticed
-      → IsReadOn contents begun begun Is session named
+      → IsReadOn contents begun begun lose Is session named
   begins_reading begun Is session named none zero read is = (
     [],
     [],
     nothing_noticed,
     [],
-    record { read = read; session_is = is; has_told = nothing_told contents begun session.audit.judge.judging named none zero },
+    record { read = read; session_is = is; has_told = nothing_told contents lose begun session.audit.judge.judging named none zero },
   )
 
   -- the next frame, before what is over then is told
   pub read_one : (begun now : Teller W) (Was Is : List Step → Type 0) (old new : Session) (named : List ℕ) (step : Step) (history : List Step) (carried all : List Carried) (s t : Noticed) (ts : List Telling)
-      → IsReadAndTold contents begun now Was old named history carried s ts → JudgesAs old new → IsOneMore carried all
+      → IsReadAndTold contents begun now lose Was old named history carried s ts → JudgesAs old new → IsOneMore carried all
       → Is (step ∷ history) × IsSessionAfter new named (numbers_of ts) (step ∷ history) all t
-      → IsReadAndTold contents begun now Is new named (step ∷ history) all t ts
+      → IsReadAndTold contents begun now lose Is new named (step ∷ history) all t ts
   read_one begun now Was Is old new named step history carried all s t ts is judges one p = record {
     read = p.0;
     session_is = p.1;
     has_told = told_on begun now new.audit.judge.judging named (so_far history carried s) (so_far (step ∷ history) all t) ts (part_on step history carried all s t one)
-        (subst (λ (k : Judging). HasTold contents begun now k named (so_far history carried s) ts) (sym judges) is.has_told);
+        (subst (λ (k : Judging). HasTold contents begun now lose k named (so_far history carried s) ts) (sym judges) is.has_told);
   }
 
   -- the recording's end
   pub read_end : (begun now : Teller W) (Was Is : List Step → Type 0) (old new : Session) (named : List ℕ) (history : List Step) (carried : List Carried) (s : Noticed) (ts : List Telling)
-      → IsReadAndTold contents begun now Was old named history carried s ts → JudgesAs old new
+      → IsReadAndTold contents begun now lose Was old named history carried s ts → JudgesAs old new
       → Is history × IsSessionAfter new named (numbers_of ts) history carried s
-      → IsReadOn contents begun now Is new named
+      → IsReadOn contents begun now lose Is new named
   read_end begun now Was Is old new named history carried s ts is judges p = (
     history,
     carried,
@@ -112,20 +113,20 @@ module _ {W : Type 0} (contents : W → Option (List ℕ)) where
     record {
       read = p.0;
       session_is = p.1;
-      has_told = subst (λ (k : Judging). HasTold contents begun now k named (so_far history carried s) ts) (sym judges) is.has_told;
+      has_told = subst (λ (k : Judging). HasTold contents begun now lose k named (so_far history carried s) ts) (sym judges) is.has_told;
     },
   )
 
   -- what is over is told
-  pub told_over : (begun old new : Teller W) (lose : Bool) (Is : List Step → Type 0) (before after : Session) (named : List ℕ) (history : List Step) (carried : List Carried) (s : Noticed) (ts : List Telling)
-      → IsReadAndTold contents begun old Is before named history carried s ts → JudgesAs before after
-      → TellsTurns contents (λ b. IsOldestOver b named carried s × JudgesAs before b) (record old { may_lose = lose }) new after named (numbers_of ts) history carried s
-      → IsReadOn contents begun new Is after named
-  told_over begun old new lose Is before after named history carried s ts is judges turns =
+  pub told_over : (begun old new : Teller W) (yet : Bool) (Is : List Step → Type 0) (before after : Session) (named : List ℕ) (history : List Step) (carried : List Carried) (s : Noticed) (ts : List Telling)
+      → IsReadAndTold contents begun old lose Is before named history carried s ts → JudgesAs before after → yet ≡ lose
+      → TellsTurns contents (λ b. IsOldestOver b named carried s × JudgesAs before b) (record old { may_lose = yet }) new after named (numbers_of ts) history carried s
+      → IsReadOn contents begun new lose Is after named
+  told_over begun old new yet Is before after named history carried s ts is judges same turns =
       let more = told_in_turn contents (λ b. IsOldestOver b named carried s × JudgesAs before b) named history carried s
-      (λ t us. HasTold contents begun t before.audit.judge.judging named (so_far history carried s) us)
-      (λ t u d e us told at holds step. has_told contents begun t u d e before.audit.judge.judging named history carried s us told holds.1 is.session_is.noticed at holds.0 step)
-      turns.told (record old { may_lose = lose }) new ts turns.left (loses_too contents begun old lose _ named (so_far history carried s) ts is.has_told) turns.turns in (
+      (HasToldSo contents lose begun before.audit.judge.judging named (so_far history carried s))
+      (λ t u d e us told at holds step. has_told_so contents lose begun t u d e before.audit.judge.judging named history carried s us told holds.1 is.session_is.noticed at holds.0 step)
+      turns.told (record old { may_lose = yet }) new ts turns.left (loses_too contents lose begun old yet _ named (so_far history carried s) ts is.has_told, same) turns.turns in (
         history,
         carried,
         s,
@@ -133,24 +134,25 @@ module _ {W : Type 0} (contents : W → Option (List ℕ)) where
         record {
           read = is.read;
           session_is = record { noticed = is.session_is.noticed; kept = subst (λ out. IsSessionOf after named out history carried s) more.2 turns.handed_out };
-          has_told = subst (λ (k : Judging). HasTold contents begun new k named (so_far history carried s) more.0) (sym judges) more.1;
+          has_told = subst (λ (k : Judging). HasTold contents begun new lose k named (so_far history carried s) more.0) (sym judges) more.1.0;
         },
       )
 
-  pub told_over_for : (n : ℕ) (begun old new : Teller W) (lose : Bool) (Is : List Step → Type 0) (before after : Session) (named : List ℕ) (history : List Step) (carried : List Carried) (s : Noticed) (ts : List Telling)
-      → IsReadAndTold contents begun old Is before named history carried s ts → JudgesAs before after
-      → TellsTurns contents (λ b. IsOldestOver b named carried s × JudgesAs before b) (record old { may_lose = lose }) new after named (numbers_of ts) history carried s
+  pub told_over_for : (n : ℕ) (begun old new : Teller W) (yet : Bool) (Is : List Step → Type 0) (before after : Session) (named : List ℕ) (history : List Step) (carried : List Carried) (s : Noticed) (ts : List Telling)
+      → IsReadAndTold contents begun old lose Is before named history carried s ts → JudgesAs before after → yet ≡ lose
+      → TellsTurns contents (λ b. IsOldestOver b named carried s × JudgesAs before b) (record old { may_lose = yet }) new after named (numbers_of ts) history carried s
       → n ≤ length history → IsReadOnFor n begun new Is after named
   unfolding told_over
-  told_over_for n begun old new lose Is before after named history carried s ts is judges turns many = (told_over begun old new lose Is before after named history carried s ts is judges turns, many)
+  told_over_for n begun old new yet Is before after named history carried s ts is judges same turns many = (told_over begun old new yet Is before after named history carried s ts is judges same turns, many)
 
   -- the recording is closed
-  pub closed_then : (begun now : Teller W) (file left : Option (List ℕ)) (recording : RecordingState) (before after : Session) (named : List ℕ)
-      → IsReadOn contents begun now (λ history. (bytes : List ℕ) × Consumes file left bytes × StandsFor recording bytes history) before named
+  pub closed_then : {Q : List ℕ → Type 0} (begun now : Teller W) (file left : Option (List ℕ)) (recording : RecordingState) (before after : Session) (named : List ℕ)
+      → IsReadOn contents begun now lose (λ history. (bytes : List ℕ) × Consumes file left bytes × StandsFor recording bytes history × Q bytes) before named
       → (standing_of recording ≡ Standing.Over → IsAtEnd left) → HasEnded recording before.notes → JudgesAs before after → after.notes.fault ≡ before.notes.fault
       → ((out : List ℕ) (history : List Step) (carried : List Carried) (s : Noticed) → IsSessionAfter before named out history carried s → IsSessionClosed after recording named out history carried s)
+      → ((history : List Step) → (bytes : List ℕ) × Consumes file left bytes × StandsFor recording bytes history × Q bytes → lose ≡ false → lost_in recording ≡ 0)
       → IsReadThrough contents begun now file after named
-  closed_then begun now file left recording before after named is at_end ended judges fault closes = record {
+  closed_then begun now file left recording before after named is at_end ended judges fault closes lossless = record {
     recording = recording;
     history = is.0;
     carried = is.1;
@@ -159,9 +161,69 @@ module _ {W : Type 0} (contents : W → Option (List ℕ)) where
     read = record { bytes = is.4.read.0; left = left; had = is.4.read.1; frames = is.4.read.2; at_end = at_end };
     ended = ended_too recording before.notes after.notes fault ended;
     closed = closes (numbers_of is.3) is.0 is.1 is.2 is.4.session_is;
-    has_told = subst (λ (k : Judging). HasTold contents begun now k named (so_far is.0 is.1 is.2) is.3) (sym judges) is.4.has_told;
+    may_lose = lose;
+    lossless = lossless is.0 is.4.read;
+    has_told = subst (λ (k : Judging). HasTold contents begun now lose k named (so_far is.0 is.1 is.2) is.3) (sym judges) is.4.has_told;
   }
 
+  -- ---- where a call has failed
+
+  judged_as : (begun now : Teller W) (k j : Judging) (named : List ℕ) (all : Part) (ts : List Telling) → k ≡ j → HasTold contents begun now lose k named all ts → HasTold contents begun now lose j named all ts
+  judged_as begun now k j named all ts same h = subst (λ (i : Judging). HasTold contents begun now lose i named all ts) same h
+
+  -- what was read before was told as it should be
+  pub stops_there : {Q : List ℕ → Type 0} (begun now : Teller W) (file left : Option (List ℕ)) (recording : RecordingState) (session : Session) (judging : Judging) (named : List ℕ)
+      → IsReadOn contents begun now lose (λ history. (bytes : List ℕ) × Consumes file left bytes × StandsFor recording bytes history × Q bytes) session named → session.audit.judge.judging ≡ judging
+      → IsReadInPart contents begun now file judging named
+  stops_there begun now file left recording session judging named is same = record {
+    history = is.0;
+    carried = is.1;
+    noticed = is.2;
+    tellings = is.3;
+    read = inr (recording, is.4.read.0, left, is.4.read.1, is.4.read.2);
+    came = is.4.session_is.noticed;
+    has_told = told_so_far contents lose begun now judging named (so_far is.0 is.1 is.2) is.3
+        (judged_as begun now session.audit.judge.judging judging named (so_far is.0 is.1 is.2) is.3 same is.4.has_told);
+  }
+
+  part_told : (begun mid now : Teller W) (judging : Judging) (named : List ℕ) (all : Part) (ts : List Telling) → HasTold contents begun mid lose judging named all ts
+      → (now ≡ mid) ⊎ TellsNextPart contents mid now judging named (numbers_of ts) all.carried → HasToldPart contents begun now judging named all ts
+  part_told begun mid now judging named all ts h (inl same) = subst (λ (t : Teller W). HasToldPart contents begun t judging named all ts) (sym same) (told_so_far contents lose begun mid judging named all ts h)
+  part_told begun mid now judging named all ts h (inr step) = told_part contents lose begun mid now judging named all ts h step
+
+  -- what is over is told, and the last one in part
+  pub stops_telling : {Q : List ℕ → Type 0} (begun old new : Teller W) (yet : Bool) (file left : Option (List ℕ)) (recording : RecordingState) (before : Session) (judging : Judging) (named : List ℕ) (history : List Step) (carried : List Carried) (s : Noticed) (ts : List Telling)
+      → IsReadAndTold contents begun old lose (λ frames. (bytes : List ℕ) × Consumes file left bytes × StandsFor recording bytes frames × Q bytes) before named history carried s ts → before.audit.judge.judging ≡ judging → yet ≡ lose
+      → TellsTurnsPart contents (λ b. IsOldestOver b named carried s × JudgesAs before b) (record old { may_lose = yet }) new before.audit.judge.judging named (numbers_of ts) history carried s
+      → IsReadInPart contents begun new file judging named
+  stops_telling begun old new yet file left recording before judging named history carried s ts is same calm turns =
+      let here = before.audit.judge.judging in
+      let more = told_in_turn contents (λ b. IsOldestOver b named carried s × JudgesAs before b) named history carried s
+      (HasToldSo contents lose begun here named (so_far history carried s))
+      (λ t u d e us told at holds step. has_told_so contents lose begun t u d e here named history carried s us told holds.1 is.session_is.noticed at holds.0 step)
+      turns.turns.told (record old { may_lose = yet }) turns.mid ts turns.turns.left (loses_too contents lose begun old yet here named (so_far history carried s) ts is.has_told, calm) turns.turns.turns in
+      record {
+        history = history;
+        carried = carried;
+        noticed = s;
+        tellings = more.0;
+        read = inr (recording, is.read.0, left, is.read.1, is.read.2);
+        came = is.session_is.noticed;
+        has_told = subst (λ (k : Judging). HasToldPart contents begun new k named (so_far history carried s) more.0) same
+            (part_told begun turns.mid new here named (so_far history carried s) more.0 more.1.0
+            (subst (λ out. (new ≡ turns.mid) ⊎ TellsNextPart contents turns.mid new here named out carried) more.2 turns.part));
+      }
+
+  -- none waits, and the next transfer was told in part, or not
+  all_told : (begun mid now : Teller W) (dropped : ℕ) (judging : Judging) (named : List ℕ) (end : Option Part) (all : Part) (ts : List Telling) → HasToldAll contents begun mid lose dropped judging named end all ts
+      → (now ≡ mid) ⊎ TellsNextPart contents mid now judging named (numbers_of ts) all.carried → HasToldInPart contents begun now dropped judging named end all ts
+  all_told begun mid now dropped judging named end all ts h (inl same) =
+      subst (λ (t : Teller W). HasToldInPart contents begun t dropped judging named end all ts) (sym same) (all_so_far contents lose begun mid dropped judging named end all ts h)
+  all_told begun mid now dropped judging named end all ts h (inr step) = all_part_next contents lose begun mid now dropped judging named end all ts h step
+
+-- ---- the whole
+
+module _ {W : Type 0} (contents : W → Option (List ℕ)) where
   -- what waited was printed, and the rest told
   pub rest_told : (begun mid late now : Teller W) (file : Option (List ℕ)) (session after : Session) (judging : Judging) (named : List ℕ) → (is : IsReadThrough contents begun mid file session named)
       → PrintsAllWith contents session.notes.dropped mid.printer late.printer mid.held.items → late.held.items ≡ []
@@ -175,15 +237,15 @@ module _ {W : Type 0} (contents : W → Option (List ℕ)) where
       let waiting = frames_in is.recording.waiting in
       let all = so_far is.history is.carried is.noticed in
       let last = once_ended is.recording all in
-      let held : HasToldAll contents begun late session.notes.dropped session.audit.judge.judging named (Some last) all is.tellings =
-      held_told contents begun mid late session.notes.dropped session.audit.judge.judging named (Some last) all is.tellings is.has_told prints none late_is in
+      let held : HasToldAll contents begun late is.may_lose session.notes.dropped session.audit.judge.judging named (Some last) all is.tellings =
+      held_told contents is.may_lose begun mid late session.notes.dropped session.audit.judge.judging named (Some last) all is.tellings is.has_told prints none late_is in
       let more = told_in_turn contents (JudgesAs session) named is.history is.carried (giving_up waiting is.noticed)
-      (λ t us. HasToldAll contents begun t session.notes.dropped session.audit.judge.judging named (Some last) all us)
-      (λ t u d e us was at holds step. has_told_all contents begun t u session.notes.dropped d e session.audit.judge.judging named is.history is.carried is.noticed waiting us was holds is.closed.noticed step)
+      (λ t us. HasToldAll contents begun t is.may_lose session.notes.dropped session.audit.judge.judging named (Some last) all us)
+      (λ t u d e us was at holds step. has_told_all contents is.may_lose begun t u session.notes.dropped d e session.audit.judge.judging named is.history is.carried is.noticed waiting us was holds is.closed.noticed step)
       told.0.told late now is.tellings told.0.left held told.0.turns in
-      let whole : HasToldAll contents begun now lost judging named (Some last) all more.0 =
-      subst (λ (k : Judging). HasToldAll contents begun now lost k named (Some last) all more.0) judges
-      (subst (λ n. HasToldAll contents begun now n session.audit.judge.judging named (Some last) all more.0) is.closed.dropped more.1) in
+      let whole : HasToldAll contents begun now is.may_lose lost judging named (Some last) all more.0 =
+      subst (λ (k : Judging). HasToldAll contents begun now is.may_lose lost k named (Some last) all more.0) judges
+      (subst (λ n. HasToldAll contents begun now is.may_lose n session.audit.judge.judging named (Some last) all more.0) is.closed.dropped more.1) in
       record {
         recording = is.recording;
         history = is.history;
@@ -193,31 +255,13 @@ module _ {W : Type 0} (contents : W → Option (List ℕ)) where
         read = is.read;
         ended = subst (λ (n : Notes). HasEnded is.recording n) (sym same) is.ended;
         came = is.closed.noticed;
+        may_lose = is.may_lose;
+        lossless = is.lossless;
         noted = subst (λ (n : Notes). AreNotesOf n (giving_up waiting is.noticed)) (sym same) is.closed.kept.notes;
         told = whole;
         in_order = are_in_order begun.file.now judging named (Some last) all more.0 whole.told;
         none_left_out = λ n some. among_them n (whole_of named is.carried) told.0.left (numbers_of more.0) more.2 some (told.1 n);
       }
-
-  -- ---- where a call has failed
-
-  judged_as : (begun now : Teller W) (k j : Judging) (named : List ℕ) (all : Part) (ts : List Telling) → k ≡ j → HasTold contents begun now k named all ts → HasTold contents begun now j named all ts
-  judged_as begun now k j named all ts same h = subst (λ (i : Judging). HasTold contents begun now i named all ts) same h
-
-  -- what was read before was told as it should be
-  pub stops_there : (begun now : Teller W) (file left : Option (List ℕ)) (recording : RecordingState) (session : Session) (judging : Judging) (named : List ℕ)
-      → IsReadOn contents begun now (λ history. (bytes : List ℕ) × Consumes file left bytes × StandsFor recording bytes history) session named → session.audit.judge.judging ≡ judging
-      → IsReadInPart contents begun now file judging named
-  stops_there begun now file left recording session judging named is same = record {
-    history = is.0;
-    carried = is.1;
-    noticed = is.2;
-    tellings = is.3;
-    read = inr (recording, is.4.read.0, left, is.4.read.1, is.4.read.2);
-    came = is.4.session_is.noticed;
-    has_told = told_so_far contents begun now judging named (so_far is.0 is.1 is.2) is.3
-        (judged_as begun now session.audit.judge.judging judging named (so_far is.0 is.1 is.2) is.3 same is.4.has_told);
-  }
 
   -- nothing was read
   pub reads_none : (begun : Teller W) (file : Option (List ℕ)) (judging : Judging) (named : List ℕ) → begun.held.items ≡ [] → begun.told ≡ 0 → IsReadInPart contents begun begun file judging named
@@ -228,36 +272,8 @@ module _ {W : Type 0} (contents : W → Option (List ℕ)) where
     tellings = [];
     read = inl refl;
     came = (refl, refl);
-    has_told = told_so_far contents begun begun judging named (so_far [] [] nothing_noticed) [] (nothing_told contents begun judging named none zero);
+    has_told = told_so_far contents false begun begun judging named (so_far [] [] nothing_noticed) [] (nothing_told contents false begun judging named none zero);
   }
-
-  part_told : (begun mid now : Teller W) (judging : Judging) (named : List ℕ) (all : Part) (ts : List Telling) → HasTold contents begun mid judging named all ts
-      → (now ≡ mid) ⊎ TellsNextPart contents mid now judging named (numbers_of ts) all.carried → HasToldPart contents begun now judging named all ts
-  part_told begun mid now judging named all ts h (inl same) = subst (λ (t : Teller W). HasToldPart contents begun t judging named all ts) (sym same) (told_so_far contents begun mid judging named all ts h)
-  part_told begun mid now judging named all ts h (inr step) = told_part contents begun mid now judging named all ts h step
-
-  -- what is over is told, and the last one in part
-  pub stops_telling : (begun old new : Teller W) (lose : Bool) (file left : Option (List ℕ)) (recording : RecordingState) (before : Session) (judging : Judging) (named : List ℕ) (history : List Step) (carried : List Carried) (s : Noticed) (ts : List Telling)
-      → IsReadAndTold contents begun old (λ frames. (bytes : List ℕ) × Consumes file left bytes × StandsFor recording bytes frames) before named history carried s ts → before.audit.judge.judging ≡ judging
-      → TellsTurnsPart contents (λ b. IsOldestOver b named carried s × JudgesAs before b) (record old { may_lose = lose }) new before.audit.judge.judging named (numbers_of ts) history carried s
-      → IsReadInPart contents begun new file judging named
-  stops_telling begun old new lose file left recording before judging named history carried s ts is same turns =
-      let here = before.audit.judge.judging in
-      let more = told_in_turn contents (λ b. IsOldestOver b named carried s × JudgesAs before b) named history carried s
-      (λ t us. HasTold contents begun t here named (so_far history carried s) us)
-      (λ t u d e us told at holds step. has_told contents begun t u d e here named history carried s us told holds.1 is.session_is.noticed at holds.0 step)
-      turns.turns.told (record old { may_lose = lose }) turns.mid ts turns.turns.left (loses_too contents begun old lose here named (so_far history carried s) ts is.has_told) turns.turns.turns in
-      record {
-        history = history;
-        carried = carried;
-        noticed = s;
-        tellings = more.0;
-        read = inr (recording, is.read.0, left, is.read.1, is.read.2);
-        came = is.session_is.noticed;
-        has_told = subst (λ (k : Judging). HasToldPart contents begun new k named (so_far history carried s) more.0) same
-            (part_told begun turns.mid new here named (so_far history carried s) more.0 more.1
-            (subst (λ out. (new ≡ turns.mid) ⊎ TellsNextPart contents turns.mid new here named out carried) more.2 turns.part));
-      }
 
   -- a recording that was read through was read
   through_so : (begun now : Teller W) (file : Option (List ℕ)) (session : Session) (judging : Judging) (named : List ℕ) → IsReadThrough contents begun now file session named → session.audit.judge.judging ≡ judging
@@ -269,8 +285,8 @@ module _ {W : Type 0} (contents : W → Option (List ℕ)) where
     tellings = is.tellings;
     read = inr (is.recording, is.read.bytes, is.read.left, is.read.had, is.read.frames);
     came = is.closed.noticed;
-    has_told = told_so_far contents begun now judging named (so_far is.history is.carried is.noticed) is.tellings
-        (judged_as begun now session.audit.judge.judging judging named (so_far is.history is.carried is.noticed) is.tellings same is.has_told);
+    has_told = told_so_far contents is.may_lose begun now judging named (so_far is.history is.carried is.noticed) is.tellings
+        (judged_as contents is.may_lose begun now session.audit.judge.judging judging named (so_far is.history is.carried is.noticed) is.tellings same is.has_told);
   }
 
   pub either_way : {A E : Type 0} (r : Result A E) (begun now : Teller W) (file : Option (List ℕ)) (session : Session) (judging : Judging) (named : List ℕ) → OnOk r (IsReadThrough contents begun now file session named)
@@ -295,12 +311,6 @@ module _ {W : Type 0} (contents : W → Option (List ℕ)) where
     in_order = are_in_order begun.file.now judging named None (so_far is.history is.carried is.noticed) is.tellings is.has_told.told;
   }
 
-  all_told : (begun mid now : Teller W) (dropped : ℕ) (judging : Judging) (named : List ℕ) (end : Option Part) (all : Part) (ts : List Telling) → HasToldAll contents begun mid dropped judging named end all ts
-      → (now ≡ mid) ⊎ TellsNextPart contents mid now judging named (numbers_of ts) all.carried → HasToldInPart contents begun now dropped judging named end all ts
-  all_told begun mid now dropped judging named end all ts h (inl same) =
-      subst (λ (t : Teller W). HasToldInPart contents begun t dropped judging named end all ts) (sym same) (all_so_far contents begun mid dropped judging named end all ts h)
-  all_told begun mid now dropped judging named end all ts h (inr step) = all_part_next contents begun mid now dropped judging named end all ts h step
-
   -- what waited is told, and of the rest a part
   pub rest_in_part : (begun mid late now : Teller W) (file : Option (List ℕ)) (session : Session) (judging : Judging) (named : List ℕ) → (is : IsReadThrough contents begun mid file session named)
       → PrintsAllWith contents session.notes.dropped mid.printer late.printer mid.held.items → late.held.items ≡ []
@@ -314,10 +324,10 @@ module _ {W : Type 0} (contents : W → Option (List ℕ)) where
       let waiting = frames_in is.recording.waiting in
       let all = so_far is.history is.carried is.noticed in
       let last = once_ended is.recording all in
-      let held : HasToldAll contents begun late lost here named (Some last) all is.tellings = held_told contents begun mid late lost here named (Some last) all is.tellings is.has_told prints none late_is in
+      let held : HasToldAll contents begun late is.may_lose lost here named (Some last) all is.tellings = held_told contents is.may_lose begun mid late lost here named (Some last) all is.tellings is.has_told prints none late_is in
       let more = told_in_turn contents (JudgesAs session) named is.history is.carried (giving_up waiting is.noticed)
-      (λ t us. HasToldAll contents begun t lost here named (Some last) all us)
-      (λ t u d e us was at holds step. has_told_all contents begun t u lost d e here named is.history is.carried is.noticed waiting us was holds is.closed.noticed step)
+      (λ t us. HasToldAll contents begun t is.may_lose lost here named (Some last) all us)
+      (λ t u d e us was at holds step. has_told_all contents is.may_lose begun t u lost d e here named is.history is.carried is.noticed waiting us was holds is.closed.noticed step)
       turns.turns.told late turns.mid is.tellings turns.turns.left held turns.turns.turns in
       record {
         history = is.history;
@@ -330,7 +340,7 @@ module _ {W : Type 0} (contents : W → Option (List ℕ)) where
         came = is.closed.noticed;
         ended = (is.recording, is.read, not_open is.recording session.notes is.ended, refl);
         told = subst (λ (k : Judging). HasToldInPart contents begun now lost k named (Some last) all more.0) same
-            (all_told begun turns.mid now lost here named (Some last) all more.0 more.1
+            (all_told contents is.may_lose begun turns.mid now lost here named (Some last) all more.0 more.1
             (subst (λ out. (now ≡ turns.mid) ⊎ TellsNextPart contents turns.mid now here named out is.carried) more.2 turns.part));
         in_order = are_in_order begun.file.now here named (Some last) all more.0 more.1.told;
       }

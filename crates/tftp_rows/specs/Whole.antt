@@ -1,6 +1,6 @@
 -- What is told of a whole recording: the rows of its transfers, each once. Lists of what a recording has, and of the transfers that were told,
 -- have the newest first; rows stand in the order in which they are told.
-use Rattle.std.specs.Prelude.{◌≡◌, ◌⊎◌, ◌<◌, ◌≤◌, ◌^◌, ◌-◌, ◌++◌, ℕ, true, false, List, [], ◌∷◌, length, max, min, IfSome, IsSome, Option, Some, None}
+use Rattle.std.specs.Prelude.{◌≡◌, ◌⊎◌, ◌<◌, ◌≤◌, ◌^◌, ◌-◌, ◌++◌, ℕ, Bool, true, false, List, [], ◌∷◌, length, max, min, IfSome, IsSome, Option, Some, None}
 use Rattle.std.specs.Io.KnownBytes.{Consumes, IsAtEnd}
 use Rattle.std.specs.List.{AllByRecursion}
 use Rattle.net_streams.specs.{Standing}
@@ -24,7 +24,7 @@ use Rattle.audit_recording.specs.declared.session.session.Session.{Session}
 use Rattle.audit_rows.specs.{IsJudgedOf}
 use Rattle.audit_rows.specs.declared.judged.Judged.{Judged}
 use Rattle.tftp_rows.specs.Printing.{PrintsAll, PrintsPart, verdict_lines}
-use Rattle.tftp_rows.specs.Telling.{AreRowsAt, AreRowsWith, IsNext, PrintsAllWith, PrintsPartWith, places_of, worst_at}
+use Rattle.tftp_rows.specs.Telling.{AreRowsAt, AreRowsWith, IsNext, PrintsAllWith, PrintsPartWith, RefuseNothing, places_of, worst_at}
 use Rattle.tftp_rows.specs.declared.row.VerdictRow.{VerdictRow}
 use Rattle.tftp_rows.specs.declared.teller.Teller.{Teller}
 
@@ -164,8 +164,8 @@ WereRead file history =
 
 module _ {W : Type 0} (contents : W → Option (List ℕ)) where
   -- Since the file was begun these transfers were told, each once it was over: their rows were printed, each once and in order, but for the
-  -- last ones, which wait.
-  pub record HasTold (begun now : Teller W) (judging : Judging) (named : List ℕ) (all : Part) (tellings : List Telling) : Type 0 where
+  -- last ones, which wait. While the recorder may yet tell that it lost packets, none was printed that refuses a datagram.
+  pub record HasTold (begun now : Teller W) (lose : Bool) (judging : Judging) (named : List ℕ) (all : Part) (tellings : List Telling) : Type 0 where
     pub told : AreTold begun.file.now judging named None all tellings
     pub printed : List VerdictRow
     pub rows : all_rows tellings ≡ printed ++ now.held.items
@@ -174,10 +174,11 @@ module _ {W : Type 0} (contents : W → Option (List ℕ)) where
     pub number : now.told ≡ counted tellings
     pub status : now.status ≡ max begun.status (worst_of tellings)
     pub dropped : now.dropped ≡ begun.dropped
+    pub calm : lose ≡ true → RefuseNothing printed
 
   -- The same where none waits, and the recording may have ended: the first rows were printed as they are where nothing is known to be lost,
   -- and the last ones as they are where the recorder lost so many packets.
-  pub record HasToldAll (begun now : Teller W) (dropped : ℕ) (judging : Judging) (named : List ℕ) (end : Option Part) (all : Part) (tellings : List Telling) : Type 0 where
+  pub record HasToldAll (begun now : Teller W) (lose : Bool) (dropped : ℕ) (judging : Judging) (named : List ℕ) (end : Option Part) (all : Part) (tellings : List Telling) : Type 0 where
     pub told : AreTold begun.file.now judging named end all tellings
     pub early : List VerdictRow
     pub late : List VerdictRow
@@ -193,6 +194,7 @@ module _ {W : Type 0} (contents : W → Option (List ℕ)) where
     pub number : now.told ≡ counted tellings
     pub status : now.status ≡ max begun.status (worst_of tellings)
     pub dropped_now : now.dropped ≡ dropped
+    pub calm : lose ≡ true → RefuseNothing early
 
   -- A call has failed: the first rows of these transfers, and of one that was told in part, were printed, each once and in order, and nothing else:
   -- whole, and then those that wait come next; or in part, and none waits.
@@ -225,15 +227,15 @@ module _ {W : Type 0} (contents : W → Option (List ℕ)) where
 
   -- These frames were read, as `Read` says, the session is the one after them, and of their transfers these were told, since the file was begun,
   -- and handed out.
-  pub record IsReadAndTold (begun now : Teller W) (Read : List Step → Type 0) (session : Session) (named : List ℕ) (history : List Step) (carried : List Carried) (s : Noticed) (tellings : List Telling) : Type 0 where
+  pub record IsReadAndTold (begun now : Teller W) (lose : Bool) (Read : List Step → Type 0) (session : Session) (named : List ℕ) (history : List Step) (carried : List Carried) (s : Noticed) (tellings : List Telling) : Type 0 where
     pub read : Read history
     pub session_is : IsSessionAfter session named (numbers_of tellings) history carried s
-    pub has_told : HasTold begun now session.audit.judge.judging named (so_far history carried s) tellings
+    pub has_told : HasTold begun now lose session.audit.judge.judging named (so_far history carried s) tellings
 
   -- the same of whatever was read and told
-  abbrev pub IsReadOn : Teller W → Teller W → (List Step → Type 0) → Session → List ℕ → Type 0
-  IsReadOn begun now Read session named =
-      (history : List Step) × (carried : List Carried) × (s : Noticed) × (tellings : List Telling) × IsReadAndTold begun now Read session named history carried s tellings
+  abbrev pub IsReadOn : Teller W → Teller W → Bool → (List Step → Type 0) → Session → List ℕ → Type 0
+  IsReadOn begun now lose Read session named =
+      (history : List Step) × (carried : List Carried) × (s : Noticed) × (tellings : List Telling) × IsReadAndTold begun now lose Read session named history carried s tellings
 
   -- The file was read to its end, or to a fault that is noted, and the session is closed: of their transfers these were told, since the file was begun,
   -- and handed out.
@@ -246,7 +248,9 @@ module _ {W : Type 0} (contents : W → Option (List ℕ)) where
     pub read : IsFileRead file recording history
     pub ended : HasEnded recording session.notes
     pub closed : IsSessionClosed session recording named (numbers_of tellings) history carried noticed
-    pub has_told : HasTold begun now session.audit.judge.judging named (so_far history carried noticed) tellings
+    pub may_lose : Bool
+    pub lossless : may_lose ≡ false → lost_in recording ≡ 0
+    pub has_told : HasTold begun now may_lose session.audit.judge.judging named (so_far history carried noticed) tellings
 
   -- a call has failed: these frames were read before, and of their transfers these were told, the last one in part
   pub record IsReadInPart (begun now : Teller W) (file : Option (List ℕ)) (judging : Judging) (named : List ℕ) : Type 0 where
@@ -262,7 +266,7 @@ module _ {W : Type 0} (contents : W → Option (List ℕ)) where
 
   -- The file is a recording that was read to its end, or to a fault that is noted. By the datagrams that its frames carried, each transfer that a
   -- request opened was told, in the order of the requests, each once, and none before it was over or the recording had ended; their rows were
-  -- printed, and nothing else, and none waits.
+  -- printed, and nothing else, and none waits. Rows that refuse a datagram were printed as if none were lost only where none was.
   pub record IsRecordingTold (begun now : Teller W) (file : Option (List ℕ)) (judging : Judging) (named : List ℕ) (notes : Notes) : Type 0 where
     pub recording : RecordingState
     pub history : List Step
@@ -273,7 +277,9 @@ module _ {W : Type 0} (contents : W → Option (List ℕ)) where
     pub ended : HasEnded recording notes
     pub came : IsNoticedOf named history carried noticed
     pub noted : AreNotesOf notes (giving_up (frames_in recording.waiting) noticed)
-    pub told : HasToldAll begun now (lost_in recording) judging named (Some (once_ended recording (so_far history carried noticed))) (so_far history carried noticed) tellings
+    pub may_lose : Bool
+    pub lossless : may_lose ≡ false → lost_in recording ≡ 0
+    pub told : HasToldAll begun now may_lose (lost_in recording) judging named (Some (once_ended recording (so_far history carried noticed))) (so_far history carried noticed) tellings
     pub in_order : AreInOrder tellings
     pub none_left_out : (n : ℕ) → IsSome (opened n (whole_of named carried)) → is_among n (numbers_of tellings) ≡ true
 

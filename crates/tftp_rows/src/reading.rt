@@ -7,7 +7,7 @@ ghost use Rattle.net_udp.specs.Recording.{Step, standing_of};
 ghost use Rattle.audit_recording.specs.Blame.Frames.{Carried};
 ghost use Rattle.audit_recording.specs.Session.Kept.{IsSessionAfter};
 ghost use Rattle.audit_recording.specs.Session.Noted.{Noticed, nothing_noticed};
-ghost use Rattle.audit_recording.specs.Session.Opened.{HasEnded, HasRead, left_of};
+ghost use Rattle.audit_recording.specs.Session.Opened.{HasEnded, HasRead, left_of, may_lose_in};
 ghost use Rattle.audit_recording.specs.declared.session.opened.Opened.{Opened as OpenedKind};
 ghost use Rattle.audit_recording.specs.declared.session.session.Session.{Session as SessionKind};
 ghost use Rattle.tftp_rows.specs.Faults.{IsTellFault};
@@ -197,11 +197,11 @@ pub fn tell_frames<R: Read + Drop, W: Write + Drop>(
     session: &mut Session,
     teller: &mut Teller<'_, W>,
 ) -> Result<(), TellFault>
-    ensures told { (begun : TellerKind W) (file : Option (List ℕ)) (named : List ℕ) → IsReadOn W.Write.contents begun teller.old (HasRead R.Read.remaining file opened.old) session.old named
-        → OnOk result (IsReadOn W.Write.contents begun teller.new (HasRead R.Read.remaining file opened.new) session.new named) }
-    ensures part { (begun : TellerKind W) (file : Option (List ℕ)) (named : List ℕ) → IsReadOn W.Write.contents begun teller.old (HasRead R.Read.remaining file opened.old) session.old named
+    ensures told { (begun : TellerKind W) (file : Option (List ℕ)) (named : List ℕ) → IsReadOn W.Write.contents begun teller.old (may_lose_in opened.old) (HasRead R.Read.remaining file opened.old) session.old named
+        → OnOk result (IsReadOn W.Write.contents begun teller.new (may_lose_in opened.new) (HasRead R.Read.remaining file opened.new) session.new named) }
+    ensures part { (begun : TellerKind W) (file : Option (List ℕ)) (named : List ℕ) → IsReadOn W.Write.contents begun teller.old (may_lose_in opened.old) (HasRead R.Read.remaining file opened.old) session.old named
         → OnErr result (IsReadInPart W.Write.contents begun teller.new file session.old.audit.judge.judging named) }
-    ensures why { (begun : TellerKind W) (file : Option (List ℕ)) (named : List ℕ) → IsReadOn W.Write.contents begun teller.old (HasRead R.Read.remaining file opened.old) session.old named
+    ensures why { (begun : TellerKind W) (file : Option (List ℕ)) (named : List ℕ) → IsReadOn W.Write.contents begun teller.old (may_lose_in opened.old) (HasRead R.Read.remaining file opened.old) session.old named
         → IfErr result (IsTellFault file teller.new.printer.writer.1 teller.new.told) }
     ensures ends { OnOk result (HasEnded opened.new.recording session.new.notes) }
     ensures at_end { standing_of opened.old.recording ≡ Standing.Open
@@ -221,10 +221,10 @@ pub fn tell_frames<R: Read + Drop, W: Write + Drop>(
 /// (`begun`), stays so while it is read (`tell_frames`), and once what was held back is told none of it waits (`held`).
 pub fn recordings_are_told_as_they_are_read<R: Read + Drop, W: Write + Drop>()
     ensures begun { (begun : TellerKind W) (file : Option (List ℕ)) (opened : OpenedKind R) (session : SessionKind) (named : List ℕ) → begun.held.items ≡ [] → begun.told ≡ 0
-        → HasRead R.Read.remaining file opened [] → IsSessionAfter session named [] [] [] nothing_noticed → IsReadOn W.Write.contents begun begun (HasRead R.Read.remaining file opened) session named }
-    ensures held { (begun old new : TellerKind W) (dropped : ℕ) (file : Option (List ℕ)) (opened : OpenedKind R) (session : SessionKind) (named : List ℕ) → IsReadOn W.Write.contents begun old (HasRead R.Read.remaining file opened) session named
+        → HasRead R.Read.remaining file opened [] → IsSessionAfter session named [] [] [] nothing_noticed → IsReadOn W.Write.contents begun begun (may_lose_in opened) (HasRead R.Read.remaining file opened) session named }
+    ensures held { (begun old new : TellerKind W) (dropped : ℕ) (file : Option (List ℕ)) (opened : OpenedKind R) (session : SessionKind) (named : List ℕ) → IsReadOn W.Write.contents begun old (may_lose_in opened) (HasRead R.Read.remaining file opened) session named
         → PrintsAllWith W.Write.contents dropped old.printer new.printer old.held.items → new.held.items ≡ []
         → new ≡ record old { printer = new.printer; held = new.held; may_lose = false; dropped = dropped }
         → (history : List Step) × (carried : List Carried) × (s : Noticed) × (tellings : List Telling) × HasRead R.Read.remaining file opened history × IsSessionAfter session named (numbers_of tellings) history carried s
-        × HasToldAll W.Write.contents begun new dropped session.audit.judge.judging named None (so_far history carried s) tellings }
+        × HasToldAll W.Write.contents begun new (may_lose_in opened) dropped session.audit.judge.judging named None (so_far history carried s) tellings }
 {}

@@ -24,26 +24,27 @@ use std::io::Write;
 
 /// The text that is printed of a recording is the rows of its transfers, each once and in order: so it is when the file is begun
 /// (`begin`), stays so as more is read, and with each call that tells transfers (`tell_over`), what was held back (`tell_held`)
-/// and all the rest (`tell_all`), which leaves none out.
+/// and all the rest (`tell_all`), which leaves none out. While the recorder may yet tell that it lost packets (`lose`), no row is printed that
+/// refuses a datagram.
 pub fn recordings_are_told_in_order<W: Write + Drop>()
-    ensures begun { (begun : TellerKind W) (judging : JudgingKind) (named : List ℕ) → begun.held.items ≡ [] → begun.told ≡ 0
-        → HasTold W.Write.contents begun begun judging named (so_far [] [] nothing_noticed) [] }
-    ensures read_on { (begun now : TellerKind W) (judging : JudgingKind) (named : List ℕ) (all longer : Part) (tellings : List Telling) → IsPartOf all longer
-        → HasTold W.Write.contents begun now judging named all tellings → HasTold W.Write.contents begun now judging named longer tellings }
+    ensures begun { (begun : TellerKind W) (lose : Bool) (judging : JudgingKind) (named : List ℕ) → begun.held.items ≡ [] → begun.told ≡ 0
+        → HasTold W.Write.contents begun begun lose judging named (so_far [] [] nothing_noticed) [] }
+    ensures read_on { (begun now : TellerKind W) (lose : Bool) (judging : JudgingKind) (named : List ℕ) (all longer : Part) (tellings : List Telling) → IsPartOf all longer
+        → HasTold W.Write.contents begun now lose judging named all tellings → HasTold W.Write.contents begun now lose judging named longer tellings }
     ensures told_over { (begun old new : TellerKind W) (before after : SessionKind) (lose : Bool) (named : List ℕ) (history : List Step) (carried : List Carried) (s : Noticed) (tellings : List Telling)
-        → IsNoticedOf named history carried s → HasTold W.Write.contents begun old before.audit.judge.judging named (so_far history carried s) tellings
+        → IsNoticedOf named history carried s → HasTold W.Write.contents begun old lose before.audit.judge.judging named (so_far history carried s) tellings
         → (turns : TellsTurns W.Write.contents (λ b. IsOldestOver b named carried s × JudgesAs before b) (record old { may_lose = lose }) new after named (numbers_of tellings) history carried s)
-        → (more : List Telling) × HasTold W.Write.contents begun new before.audit.judge.judging named (so_far history carried s) more × (turns.left ≡ numbers_of more) }
-    ensures told_held { (begun old new : TellerKind W) (dropped : ℕ) (judging : JudgingKind) (named : List ℕ) (end : Option Part) (all : Part) (tellings : List Telling)
-        → HasTold W.Write.contents begun old judging named all tellings
+        → (more : List Telling) × HasTold W.Write.contents begun new lose before.audit.judge.judging named (so_far history carried s) more × (turns.left ≡ numbers_of more) }
+    ensures told_held { (begun old new : TellerKind W) (lose : Bool) (dropped : ℕ) (judging : JudgingKind) (named : List ℕ) (end : Option Part) (all : Part) (tellings : List Telling)
+        → HasTold W.Write.contents begun old lose judging named all tellings
         → PrintsAllWith W.Write.contents dropped old.printer new.printer old.held.items → new.held.items ≡ []
         → new ≡ record old { printer = new.printer; held = new.held; may_lose = false; dropped = dropped }
-        → HasToldAll W.Write.contents begun new dropped judging named end all tellings }
-    ensures told_all { (begun old new : TellerKind W) (dropped : ℕ) (before after : SessionKind) (named : List ℕ) (history : List Step) (carried : List Carried) (s : Noticed) (waiting : List ℕ) (tellings : List Telling)
+        → HasToldAll W.Write.contents begun new lose dropped judging named end all tellings }
+    ensures told_all { (begun old new : TellerKind W) (lose : Bool) (dropped : ℕ) (before after : SessionKind) (named : List ℕ) (history : List Step) (carried : List Carried) (s : Noticed) (waiting : List ℕ) (tellings : List Telling)
         → IsNoticedOf named history carried s
-        → HasToldAll W.Write.contents begun old dropped before.audit.judge.judging named (Some (so_far history carried (giving_up waiting s))) (so_far history carried s) tellings
+        → HasToldAll W.Write.contents begun old lose dropped before.audit.judge.judging named (Some (so_far history carried (giving_up waiting s))) (so_far history carried s) tellings
         → (turns : TellsTurns W.Write.contents (JudgesAs before) old new after named (numbers_of tellings) history carried (giving_up waiting s))
-        → (more : List Telling) × HasToldAll W.Write.contents begun new dropped before.audit.judge.judging named (Some (so_far history carried (giving_up waiting s))) (so_far history carried s) more × (turns.left ≡ numbers_of more) }
+        → (more : List Telling) × HasToldAll W.Write.contents begun new lose dropped before.audit.judge.judging named (Some (so_far history carried (giving_up waiting s))) (so_far history carried s) more × (turns.left ≡ numbers_of more) }
     ensures in_order { (name named : List ℕ) (judging : JudgingKind) (end : Option Part) (all : Part) (tellings : List Telling) → AreTold name judging named end all tellings → AreInOrder tellings }
 {}
 

@@ -1,13 +1,13 @@
 -- There is a highest block of whatever has passed between the ends, and so a block for each number; and what datagrams are taken for
 -- there.
-use Rattle.std.proofs.Common.{◌≡◌, ◌⊎◌, ◌+◌, ℕ, List, [], ◌∷◌, ◌++◌, Any, Option, Some, None, inl, inr, length, map, refl, sym, ap, subst, ◌∙◌, arith}
+use Rattle.std.proofs.Common.{◌≡◌, ℕ, List, [], ◌∷◌, ◌++◌, Option, Some, None, inl, inr, length, map, refl, sym, ap, subst, ◌∙◌, arith}
 use Rattle.tftp_packet.specs.{Message, Spells, In, Rollover}
 use Rattle.tftp_packet.specs.Hosts.{Datagram}
 use Rattle.law_model.specs.Rules.{HasPassed, IsHigh}
 use Rattle.law_end.proofs.Accord.HighestNumbers.{renamed}
 use Rattle.law_end.proofs.Division.Divided.{any_cases, any_first, any_later, any_none}
 use Rattle.law_end.proofs.Soundness.Settled.{either}
-use Rattle.law_tap.specs.{TapDatagram, TapSides, AreUnrolledBetween, HasKind, IsBlock, IsHighBetween, IsUnrolledBetween, Says, transfer_between, with_tap_payload}
+use Rattle.law_tap.specs.{TapDatagram, TapSides, AreUnrolledBetween, HasKind, IsBlock, IsHighBetween, IsUnrolledBetween, Says}
 use Rattle.law_tap.proofs.TapUnrolled.{in_one_way}
 use Rattle.audit_views.proofs.ViewsLemmas.Numbers.{unrolled_there as unrolled_at_end}
 use Rattle.audit_recording.specs.Between.{HoldsBetween, sides_by}

@@ -1,5 +1,5 @@
 -- The facts of the datagram that a verdict refuses.
-use Rattle.std.proofs.Common.{◌≡◌, ℕ, Bool, true, List, [], Option, Some, None, Result, Ok, Err, refl, sym, ap, subst, ◌∙◌}
+use Rattle.std.proofs.Common.{◌≡◌, ℕ, Bool, true, List, [], Option, Some, Result, Ok, Err, sym, ap, subst, ◌∙◌}
 use Rattle.law_end.specs.{Rule}
 use Rattle.law_model.specs.Model.{Meaning}
 use Rattle.law_tap.specs.{AreApart}

@@ -6,10 +6,10 @@ use Rattle.std.proofs.lemmas.List.{drop_more, length-reverse, map-append, revers
 use Rattle.std.proofs.lemmas.List.Elements.{filter-append, filter_agree}
 use Rattle.law_end.specs.{Rule}
 use Rattle.tftp_packet.specs.{Rollover}
-use Rattle.audit_flows.specs.Lines.{Placed, Recorded, is_of}
-use Rattle.audit_flows.specs.{Endpoint, Place, Transfer}
+use Rattle.audit_flows.specs.Lines.{Placed, Recorded}
+use Rattle.audit_flows.specs.{Place, Transfer}
 use Rattle.audit_flows.specs.declared.lines.place.Place.TheVariants.{Opens, Repeats, Talks, Apart, Beside, Nowhere}
-use Rattle.audit_flows.specs.Transfers.{is_about, is_at_server}
+use Rattle.audit_flows.specs.Transfers.{is_about}
 use Rattle.audit_flows.proofs.LinesLemmas.Lines.{by_test}
 use Rattle.audit_flows.proofs.TransfersLemmas.OwnDatagrams.{about_none, seen_none}
 use Rattle.audit_recording.specs.declared.blame.blame.Blamed.{Blamed}

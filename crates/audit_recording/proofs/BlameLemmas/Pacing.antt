@@ -1,5 +1,5 @@
 -- How a transfer goes in time, with one datagram more. Lists have the newest first.
-use Rattle.std.proofs.Common.{◌≡◌, ◌∷◌, ◌+◌, ◌^◌, ◌-◌, ◌&&◌, not, ℕ, Bool, true, false, true≢false, cond, min, List, Option, Some, None, refl, sym, ap, subst, ◌∙◌}
+use Rattle.std.proofs.Common.{◌≡◌, ◌∷◌, ◌+◌, ◌^◌, ◌-◌, ◌&&◌, not, ℕ, Bool, true, false, cond, min, List, Option, Some, None, refl, sym, ap, subst, ◌∙◌}
 use Rattle.tftp_packet.specs.{End, Client, Server}
 use Rattle.audit_flows.specs.{Transfer}
 use Rattle.audit_flows.specs.Lines.{same_endpoint}

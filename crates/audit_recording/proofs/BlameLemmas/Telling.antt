@@ -1,6 +1,6 @@
 -- What the judges tell of the datagrams that they were given: what they refuse, and what they refuse no more. Lists have the
 -- newest first.
-use Rattle.std.proofs.Common.{◌≡◌, ◌≤◌, ◌<◌, ◌+◌, ◌||◌, not, arith, ℕ, Bool, true, false, true≢false, List, [], ◌∷◌, ◌++◌, append_assoc, filter, length, map, reverse, Option, Some, None, IfSome, is_some, Result, Err, refl, sym, ap, subst, ◌∙◌}
+use Rattle.std.proofs.Common.{◌≡◌, ◌<◌, ◌+◌, ◌||◌, not, arith, ℕ, Bool, true, false, true≢false, List, [], ◌∷◌, ◌++◌, append_assoc, filter, length, map, reverse, Option, Some, None, IfSome, is_some, Result, Err, refl, sym, ap, subst, ◌∙◌}
 use Rattle.std.proofs.lemmas.List.{length-map, length-reverse, map-append, reverse-append, reverse-reverse}
 use Rattle.std.proofs.lemmas.List.Elements.{filter-append}
 use Rattle.tftp_packet.specs.Hosts.{Datagram, Header}
@@ -11,11 +11,11 @@ use Rattle.tftp_packet.specs.{Rollover}
 use Rattle.tftp_judge.specs.{IsJudgeAfter, IsSaidBy, IsVerdict, Judge, Refusal, Unlawful, header_by}
 use Rattle.tftp_judge.proofs.TakenText.{AreTaken, front_taken, of_held, one_taken, taken_length}
 use Rattle.tftp_judge.proofs.ByRuns.{verdict}
-use Rattle.judge_tap.specs.{IsTapJudge, TapJudge, TapRefusal}
+use Rattle.judge_tap.specs.{IsTapJudge, TapJudge}
 use Rattle.judge_tap.specs.declared.refusal.TapRefusal.TheVariants as tap
 use Rattle.audit_flows.specs.Lines.{Placed, is_of}
 use Rattle.audit_flows.specs.{Transfer}
-use Rattle.audit_flows.specs.Transfers.{client_view, is_at_server, is_settled, server_view}
+use Rattle.audit_flows.specs.Transfers.{client_view, is_at_server, is_settled}
 use Rattle.audit_views.specs.Parties.{host_name}
 use Rattle.audit_views.specs.Views.{Client, HasJudged, HasJudgedBy, IsClientAfterBy, IsGoingOnBy, IsViewAfterBy, Server, View, ViewedWith, fed_to, captured_at_client, captured_at_server, client_capture, client_header, server_capture, server_header}
 use Rattle.audit_views.specs.Views.Kept.{has_refused}
@@ -30,7 +30,7 @@ use Rattle.audit_recording.proofs.BetweenLemmas.Sides.{not_apart}
 use Rattle.tftp_packet.specs.Hosts.{same_peer}
 use Rattle.law_end.proofs.Division.RouteTests.{same_is}
 use Rattle.audit_recording.specs.Blame.Facts.{IsRefusedAt}
-use Rattle.audit_recording.specs.Blame.Kept.{Accepts, IsFixed, Refuses}
+use Rattle.audit_recording.specs.Blame.Kept.{Accepts, Refuses}
 use Rattle.audit_recording.specs.declared.rows.row.Point.{Point}
 use Rattle.audit_recording.specs.declared.rows.row.Point.TheVariants as point
 use Rattle.audit_recording.proofs.BlameLemmas.Refusing.{IsFirst, none_of_lawful, one_first}

@@ -1,9 +1,9 @@
 -- What is kept of a transfer, with one datagram more. Lists have the newest first.
-use Rattle.std.proofs.Common.{◌≡◌, ◌≤◌, ◌+◌, ◌-◌, ◌^◌, ◌==◌, ◌&&◌, ◌||◌, ℕ, suc, Bool, true, false, true≢false, cond, List, [], ◌∷◌, ◌++◌, arith, filter, length, map, max, min, Option, Some, None, IfSome, IsSome, is_some, option_map, option_copied, codes, refl, sym, ap, subst, ◌∙◌, unwrap_or}
+use Rattle.std.proofs.Common.{◌≡◌, ◌+◌, ◌-◌, ◌^◌, ◌&&◌, ◌||◌, ℕ, suc, Bool, true, false, true≢false, List, [], ◌∷◌, arith, filter, length, map, max, min, Option, Some, None, IfSome, IsSome, is_some, option_map, codes, refl, sym, ap, subst, ◌∙◌, unwrap_or}
 use Rattle.std.specs.List.{list_any}
 use Rattle.law_model.specs.Rules.{first_of, or_this}
 use Rattle.audit_flows.specs.Lines.{Placed, Recorded, agrees_late, begins_error, begins_unknown_id, is_of, may_be_earlier, rests_on_terms, same_endpoint, says_unknown_id, transfer_of}
-use Rattle.audit_flows.specs.{Endpoint, Place, Transfer, TransferEnds}
+use Rattle.audit_flows.specs.{Place, Transfer, TransferEnds}
 use Rattle.audit_flows.specs.declared.lines.place.Place.TheVariants.{Opens, Repeats, Talks, Apart, Beside, Nowhere}
 use Rattle.audit_flows.specs.Transfers.{AreEndsAfter, answered_by, asked_of, comes_of_earlier, is_about, opened_it, some_of, tells_strays, went_on_with}
 use Rattle.audit_flows.proofs.LinesLemmas.Lines.{by_test}
@@ -11,9 +11,9 @@ use Rattle.audit_flows.proofs.TransfersLemmas.OwnDatagrams.{about_none, answered
 use Rattle.audit_recording.specs.declared.blame.blame.Blame.{Blame}
 use Rattle.audit_recording.specs.declared.judges.judging.Judging.{Judging}
 use Rattle.audit_recording.specs.declared.rows.row.Point.TheVariants.{Client, Server, Between}
-use Rattle.audit_recording.specs.Judges.{points_of, rollover_of}
-use Rattle.audit_recording.specs.Blame.Frames.{Carried, Framed, framed, framed_after, seen_of, view_of, whole_of}
-use Rattle.audit_recording.specs.Blame.Kept.{AreFactsOf, IsBlameOf, IsNoted, IsPassing, IsTrailBetween, IsTrailOf, comes_to, first_frame, is_about_it, is_copied, is_damaged, last_frame, last_time_in, passed_of, sent_of}
+use Rattle.audit_recording.specs.Judges.{rollover_of}
+use Rattle.audit_recording.specs.Blame.Frames.{Carried, Framed, framed, framed_after, view_of, whole_of}
+use Rattle.audit_recording.specs.Blame.Kept.{IsBlameOf, IsNoted, IsPassing, IsTrailBetween, IsTrailOf, comes_to, first_frame, is_about_it, is_copied, is_damaged, last_frame, last_time_in, passed_of, sent_of}
 use Rattle.audit_recording.specs.Reasons.Twice.{IsTwiceAfter, sent}
 use Rattle.audit_recording.specs.Blame.Facts.{blamed_of, has_gone_on, is_for_server}
 use Rattle.audit_recording.specs.Blame.Named.{is_named, named_in, names_option, with_named}

@@ -1,11 +1,10 @@
 -- Whether a frame waits that may be of a host, from those that are kept.
-use Rattle.std.proofs.Common.{◌≡◌, ◌<◌, ◌||◌, ℕ, Bool, true, false, cond, List, [], ◌∷◌, Option, Some, None, MatchBool, length, is_some, inl, inr, refl, sym, ap, subst, ◌∙◌, arith}
+use Rattle.std.proofs.Common.{◌≡◌, ◌<◌, ◌||◌, ℕ, Bool, true, false, cond, List, [], ◌∷◌, Option, Some, None, MatchBool, length, is_some, inl, inr, refl, sym, ap, ◌∙◌, arith}
 use Rattle.std.specs.BTreeMap.{BTreeMap, get, is_at}
 use Rattle.std.specs.Map.{lookup}
 use Rattle.std.specs.Ordering.{nat_cmp}
 use Rattle.std.proofs.lemmas.Bool.{false≢true, or_right}
 use Rattle.audit_flows.specs.{Address}
-use Rattle.audit_flows.specs.Lines.{same_address}
 use Rattle.audit_recording.specs.declared.session.host_losses.HostLosses.{HostLosses}
 use Rattle.audit_recording.specs.declared.session.losses.Losses.{Losses}
 use Rattle.audit_recording.specs.Losses.Noted.{Event, Unread, is_of_host, is_of_none, waiting_at}

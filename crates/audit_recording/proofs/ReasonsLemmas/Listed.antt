@@ -1,9 +1,9 @@
 -- Reasons that are added one after the other, and which of them are the division's.
-use Rattle.std.proofs.Common.{◌≡◌, ◌≢◌, ◌&&◌, ◌||◌, not, ℕ, Bool, true, false, List, [], ◌∷◌, ◌++◌, Option, Some, None, Result, Ok, Err, OnOk, refl, sym, ap, subst, ◌∙◌, append_assoc, rules}
+use Rattle.std.proofs.Common.{◌≡◌, ◌≢◌, ◌&&◌, ◌||◌, not, ℕ, Bool, true, false, List, [], ◌∷◌, ◌++◌, Option, Some, None, Result, Ok, Err, OnOk, refl, sym, ap, ◌∙◌, append_assoc, rules}
 use Rattle.std.specs.List.{list_any}
 use Rattle.std.specs.Prelude.{option_to_list}
 use Rattle.std.proofs.lemmas.List.Folds.{list_any-append}
-use Rattle.audit_flows.specs.Lines.{Placed, follows_strays, follows_unanswered, goes_on_with_first, is_asked_again, is_disordered, is_late, says_first_word}
+use Rattle.audit_flows.specs.Lines.{Placed, follows_strays, follows_unanswered, goes_on_with_first, is_asked_again, is_disordered, is_late}
 use Rattle.audit_flows.specs.Transfers.Doubts.{is_answered_apart, is_beside, is_doubted, is_doubtful, is_led_astray, some_of, tells_strays}
 use Rattle.audit_recording.specs.Reasons.{Blamed, Doubted, Reason}
 use Rattle.audit_recording.specs.declared.blame.reason.Reason.TheVariants.{Disordered, LeftOut, FollowsUnanswered, AskedAgain, AnsweredApart, FollowsStrays, Late, Beside, LedAstray, UnknownId, FirstWord, OneWay, Twice, Lost, Copied, Damaged, Discarded}

@@ -1,10 +1,12 @@
 -- What the next frame leaves, and what the recording's end does.
-use Rattle.std.proofs.Common.{◌⊎◌, ◌∷◌, ℕ, Bool, true, false, List, OnOk, Option, Some, None, Result, Ok, Err, inl, inr, sym, ◌∙◌}
-use Rattle.std.specs.Io.KnownBytes.{Consumes, Keeps}
+use Rattle.std.proofs.Common.{◌≡◌, ◌⊎◌, ◌∷◌, ℕ, Bool, true, false, List, OnOk, Option, Result, Ok, Err, inl, inr}
 use Rattle.net_udp.specs.Recording.{Step}
+use Rattle.net_udp.proofs.RecordingLemmas.Lossless.{lost_none}
 use Rattle.audit_recording.specs.Blame.Frames.{Carried}
 use Rattle.audit_recording.specs.Session.Kept.{IsSessionAfter, ReadsOn}
 use Rattle.audit_recording.specs.Session.Noted.{Noticed}
+use Rattle.audit_recording.specs.Session.Opened.{HasRead, lost_in, may_lose_in}
+use Rattle.audit_recording.specs.declared.session.opened.Opened.{Opened}
 use Rattle.audit_recording.specs.declared.session.fault.ReadFault.{ReadFault}
 use Rattle.audit_recording.specs.declared.session.session.Session.{Session}
 
@@ -37,9 +39,7 @@ pub ok_as : {A E P Q : Type 0} (r : Result A E) → (P → Q) → OnOk r P → O
 ok_as (Ok x) f p = f p
 ok_as (Err e) f p = p
 
--- what stayed known was consumed
-pub kept_then : (a b c : Option (List ℕ)) (bytes : List ℕ) → Keeps a b → Consumes b c bytes → Consumes a c bytes
-kept_then None b c bytes kept read = tt
-kept_then (Some xs) None c bytes kept read = absurd kept
-kept_then (Some xs) (Some ys) None bytes kept read = absurd read
-kept_then (Some xs) (Some ys) (Some zs) bytes kept read = sym kept ∙ read
+-- where it can't tell later that packets were lost, none was
+pub none_lost : {R : Type 0} (remaining : R → Option (List ℕ)) (file : Option (List ℕ)) (opened : Opened R) (history : List Step) → HasRead remaining file opened history
+    → may_lose_in opened ≡ false → lost_in opened.recording ≡ 0
+none_lost remaining file opened history (bytes, consumed, stands, quiet) none = lost_none opened.recording bytes history stands (quiet none)

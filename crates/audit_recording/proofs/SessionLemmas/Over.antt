@@ -1,16 +1,15 @@
 -- When a transfer is past, and that nothing that comes later changes what is missing of it.
-use Rattle.std.proofs.Common.{rules, arith, ◌≡◌, ◌≤◌, ◌<◌, ◌+◌, ◌==◌, ◌&&◌, ◌||◌, ◌⊎◌, nat_le, nat_lt, ℕ, Bool, true, false, cond, List, [], ◌∷◌, ◌++◌, Option, Some, None, MatchBool, IsSome, is_some, inl, inr, refl, sym, ap, subst, ◌∙◌}
-use Rattle.std.specs.BTreeMap.{BTreeMap, IsLowerBound, get}
+use Rattle.std.proofs.Common.{arith, ◌≡◌, ◌≤◌, ◌<◌, ◌+◌, ◌==◌, ◌⊎◌, nat_le, nat_lt, ℕ, Bool, true, false, cond, List, [], ◌∷◌, ◌++◌, Option, Some, None, MatchBool, IsSome, is_some, inl, inr, refl, sym, ap, subst, ◌∙◌}
+use Rattle.std.specs.BTreeMap.{IsLowerBound, get}
 use Rattle.std.specs.Ordering.{nat_cmp}
 use Rattle.std.proofs.lemmas.Bool.{eqb-true, false≢true}
 use Rattle.std.proofs.lemmas.Bool.Decides.{nat_tests}
-use Rattle.audit_flows.specs.{Address}
 use Rattle.audit_flows.specs.Lines.{clock, line, live, silence}
 use Rattle.audit_recording.specs.Blame.Frames.{Carried, whole_of}
-use Rattle.audit_recording.specs.Losses.Noted.{Event, IsLost, IsMissingOf, Unread, found_late, is_soon, longest_wait, lost_by, waiting_at}
+use Rattle.audit_recording.specs.Losses.Noted.{Event, IsLost, IsMissingOf, Unread, found_late, is_soon, longest_wait, waiting_at}
 use Rattle.audit_recording.specs.Losses.Noted.Event.{Asks, Finds, GivesUp, Loses, Waits}
 use Rattle.audit_recording.specs.Session.Noted.{AreUpTo, Noticed, stretch_of}
-use Rattle.audit_recording.specs.Session.Over.{AreLater, IsLater, IsOldestOver, IsOver, IsPast, IsWaitingAt}
+use Rattle.audit_recording.specs.Session.Over.{AreLater, IsOldestOver, IsOver, IsPast, IsWaitingAt}
 use Rattle.audit_recording.specs.Session.Recording.{reached_by}
 use Rattle.audit_recording.specs.declared.blame.trail.Trail.{Trail}
 use Rattle.audit_recording.specs.declared.session.losses.Stretch.{Stretch}

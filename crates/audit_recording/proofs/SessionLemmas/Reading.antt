@@ -34,8 +34,8 @@ ended_too recording before after same (inl over) = inl over
 ended_too recording before after same (inr failed) = inr (failed.0, failed.1, same ∙ failed.2)
 
 -- and it is closed
-pub closed_reading : (file left : Option (List ℕ)) (recording : RecordingState) (old new : Session) (named : List ℕ)
-    → IsReadOn (λ history. (bytes : List ℕ) × Consumes file left bytes × StandsFor recording bytes history) old named
+pub closed_reading : {Q : List ℕ → Type 0} (file left : Option (List ℕ)) (recording : RecordingState) (old new : Session) (named : List ℕ)
+    → IsReadOn (λ history. (bytes : List ℕ) × Consumes file left bytes × StandsFor recording bytes history × Q bytes) old named
     → (standing_of recording ≡ Standing.Over → IsAtEnd left) → HasEnded recording old.notes → new.notes.fault ≡ old.notes.fault
     → ((history : List Step) (carried : List Carried) (s : Noticed) → IsSessionAfter old named [] history carried s → IsSessionClosed new recording named [] history carried s)
     → IsReadWhole file new named

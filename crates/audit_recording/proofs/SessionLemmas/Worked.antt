@@ -2,7 +2,7 @@
 use Rattle.std.proofs.Common.{◌≡◌, ◌+◌, ◌↔◌, ◌∷◌, ℕ, true, false, List, [], length, get_or, codes, ◌<◌, inl, Some, None, Vec, Global, refl, sym, ap, subst, arith, rules}
 use Rattle.std.proofs.lemmas.Bool.{false≢true}
 use Rattle.net_udp.specs.Fragments.{content_of as put_together}
-use Rattle.net_udp.specs.Frames.{HasHeader, IsBetween, Packet, Reached, SpellsFrame, SpellsLink, SpellsUdp, acknowledgement, at, held_of, host, is_opened, is_wrapping, place, source_of, target_of, udp_bytes}
+use Rattle.net_udp.specs.Frames.{HasHeader, IsBetween, Reached, SpellsFrame, SpellsLink, SpellsUdp, acknowledgement, at, held_of, host, is_opened, is_wrapping, place, source_of, target_of, udp_bytes}
 use Rattle.net_udp.specs.Frames.Extension.{leads_on}
 use Rattle.net_udp.specs.Frames.Ip.{part_of}
 use Rattle.net_udp.specs.declared.frames.link.Network.TheVariants.{Ipv4}

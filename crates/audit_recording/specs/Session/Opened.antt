@@ -1,7 +1,7 @@
 -- A recording that is read frame by frame. Lists have the newest first.
-use Rattle.std.specs.Prelude.{◌≡◌, ◌⊎◌, [], ℕ, false, List, Option, Some, option_to_list}
+use Rattle.std.specs.Prelude.{◌≡◌, ◌⊎◌, [], ℕ, Bool, false, List, Option, Some}
 use Rattle.std.specs.Io.KnownBytes.{Consumes, IsAtEnd, prepend_known}
-use Rattle.net_pcap.specs.{PcapFault, lost_of}
+use Rattle.net_pcap.specs.{BeginsAsClassic, PcapFault, lost_of}
 use Rattle.net_streams.specs.{Standing}
 use Rattle.net_udp.specs.Recording.{RecordingState, StandsFor, Step, standing_of}
 use Rattle.audit_recording.specs.Blame.Frames.{Carried}
@@ -12,14 +12,20 @@ use Rattle.audit_recording.specs.declared.session.notes.Notes.{Notes}
 use Rattle.audit_recording.specs.declared.session.opened.Opened.{Opened}
 use Rattle.audit_recording.specs.declared.session.session.Session.{Session}
 
+-- whether it may tell later that its recorder lost packets
+abbrev pub may_lose_in : {R : Type 0} → Opened R → Bool
+may_lose_in opened = opened.may_lose
+
 module _ {R : Type 0} (remaining : R → Option (List ℕ)) where
   -- what is left of the file: what was read ahead, and what its reader has left
   abbrev pub left_of : Opened R → Option (List ℕ)
-  left_of opened = prepend_known opened.recording.frames.pieces.ahead (prepend_known (option_to_list opened.reader.0.ahead) (remaining opened.reader.0.inner))
+  left_of opened = prepend_known opened.recording.frames.pieces.ahead (remaining opened.reader.0.inner)
 
-  -- the file had these bytes and what is left, and these are their frames
+  -- The file had these bytes and what is left, and these are their frames. Where it can't tell later that packets were lost it is a classic
+  -- recording, which tells of none.
   abbrev pub HasRead : Option (List ℕ) → Opened R → List Step → Type 0
-  HasRead file opened history = (bytes : List ℕ) × Consumes file (left_of opened) bytes × StandsFor opened.recording bytes history
+  HasRead file opened history =
+      (bytes : List ℕ) × Consumes file (left_of opened) bytes × StandsFor opened.recording bytes history × (may_lose_in opened ≡ false → BeginsAsClassic bytes)
 
 -- it was read to its end, or to a fault, which is noted
 abbrev pub HasEnded : RecordingState → Notes → Type 0

@@ -1,12 +1,13 @@
 //! Laws of the definitions in `specs/`. Each is the contract of a function that does nothing.
 
-ghost use Rattle.std.specs.Prelude.{◌≡◌, [], ◌++◌, ◌∷◌, List, None, Option, Some, false, true};
+ghost use Rattle.std.specs.Prelude.{◌≡◌, [], ◌++◌, ◌∷◌, ℕ, List, None, Ok, Option, Some, false, true};
 ghost use Rattle.audit_recording.specs.Between.Captured.{between_capture, is_to_itself, server_or_asked, sides_by, sides_of};
-ghost use Rattle.audit_recording.specs.Between.Judged.{HoldsBetween};
+ghost use Rattle.audit_recording.specs.Between.Judged.{HoldsBetween, IsBetweenFoundBy};
 ghost use Rattle.audit_recording.specs.Between.Kept.{IsBetweenAfterBy, View};
 ghost use Rattle.audit_recording.specs.Between.Worked.{asked_twice_between, asked_twice_sides, first_transfer};
 ghost use Rattle.audit_views.specs.Parties.{IsAddress};
-ghost use Rattle.law_tap.specs.{AreApart, block_65536, last_of_round, number_zero, rolling_sides};
+ghost use Rattle.law_model.specs.Model.{Meaning};
+ghost use Rattle.law_tap.specs.{AreApart, AreTapBytes, ShowsBetweenByNumber, TapDatagram, TapSides, block_65536, last_of_round, number_zero, rolling_sides};
 ghost use Rattle.tftp_packet.specs.{Rollover, Zero};
 ghost use Rattle.audit_flows.specs.Lines.{Placed, is_of};
 ghost use Rattle.audit_flows.specs.{Transfer};
@@ -46,4 +47,11 @@ pub fn sides_are_apart()
     ensures apart { (x : Transfer) (whole : List Placed) → IsAddress x.client.address → IsAddress x.asked.address
         → IsAddress (server_or_asked x (server_of x.number whole)).address → is_to_itself x whole ≡ false → AreApart (sides_of x whole) }
     ensures only { (x : Transfer) (whole : List Placed) → AreApart (sides_of x whole) → is_to_itself x whole ≡ false }
+{}
+
+/// What is accepted between the ends by a rollover is what some run shows there by the numbers of blocks: the verdict is on what was recorded, and not on
+/// what it is taken for.
+pub fn what_is_accepted_by_number_is_shown_by_number()
+    ensures { (r : Rollover) (s : TapSides) (given : List TapDatagram) (m : Meaning) → AreApart s → AreTapBytes given → IsBetweenFoundBy (Some r) s given (Ok m)
+        → (wire : List ℕ) × ShowsBetweenByNumber r (sides_by (Some r) s) m wire given }
 {}

@@ -1,8 +1,6 @@
 //! How a file begins, and what it is where that is no recording.
 
-ghost use Rattle.std.specs.Prelude.{◌≡◌, ◌<◌, ◌∷◌, ℕ, List, [], None, Option, length, option_to_list};
-ghost use Rattle.std.specs.Io.{ReadsAtMost};
-ghost use Rattle.std.specs.Io.KnownBytes.{Keeps, ReadConsumes, prepend_known};
+ghost use Rattle.std.specs.Prelude.{◌≡◌};
 ghost use Rattle.audit_recording.specs.Session.Headed.{is_recording};
 
 use std::io;
@@ -17,33 +15,18 @@ pub struct Headed<R: Drop> {
     inner: R,
     head: [u8; MOST],
     count: usize,
-    /// The first byte, until it is handed out.
-    ahead: Option<u8>,
 }
 
-impl<R: Read + Drop> Headed<R> {
-    /// Reads the first byte ahead. Where that fails, it is tried again at the first read.
-    pub fn begin(mut inner: R) -> Self
-        ensures keeps { Keeps (R.remaining inner) (prepend_known (option_to_list result.ahead) (R.remaining result.inner)) }
+impl<R: Drop> Headed<R> {
+    /// Nothing was read yet.
+    pub fn new(inner: R) -> Self
+        ensures inner { result.inner ≡ inner }
     {
-        let mut first = [0; 1];
-        let ahead = match inner.read(&mut first) {
-            Ok(1) => first.first().copied(),
-            _ => None,
-        };
         Headed {
             inner,
             head: [0; MOST],
             count: 0,
-            ahead,
         }
-    }
-}
-
-impl<R: Drop> Headed<R> {
-    /// Whether it may be a recording in blocks, pcapng, by its first byte, which is still ahead.
-    pub fn may_have_blocks(&self) -> bool {
-        !matches!(self.ahead, Some(0xa1 | 0xd4 | 0x4d))
     }
 
     /// The first bytes that were read.
@@ -54,28 +37,9 @@ impl<R: Drop> Headed<R> {
         }
     }
 
-    /// Hands out the byte that was read ahead.
-    fn hand_out(&mut self, byte: u8, buf: &mut [u8]) -> io::Result<usize>
-        ensures bound { ReadsAtMost result buf.new }
-        ensures bytes { (left : Option (List ℕ)) → 0 < length buf.old → ReadConsumes (prepend_known (byte ∷ []) left) left result buf.new }
-        ensures inner { self.new.inner ≡ self.old.inner }
-        ensures ahead { self.new.ahead ≡ None }
-    {
-        self.ahead = None;
-        self.keep(&[byte]);
-        match buf.first_mut() {
-            Some(place) => {
-                *place = byte;
-                Ok(1)
-            }
-            None => Ok(0),
-        }
-    }
-
     /// Keeps bytes, as far as they are among the first.
     fn keep(&mut self, bytes: &[u8])
         ensures inner { self.new.inner ≡ self.old.inner }
-        ensures ahead { self.new.ahead ≡ self.old.ahead }
     {
         for byte in bytes {
             match self.head.get_mut(self.count) {
@@ -88,12 +52,9 @@ impl<R: Drop> Headed<R> {
 }
 
 impl<R: Read + Drop> Read for Headed<R> {
-    ghost remaining = { λ h. prepend_known (option_to_list h.ahead) (R.remaining h.inner) };
+    ghost remaining = { λ h. R.remaining h.inner };
 
     fn read(&mut self, buf: &mut [u8]) -> io::Result<usize> {
-        if let (Some(byte), false) = (self.ahead, buf.is_empty()) {
-            return self.hand_out(byte, buf);
-        }
         let result = self.inner.read(buf);
         if let Ok(count) = result {
             self.keep(buf.get(..count).unwrap_or(&[]));

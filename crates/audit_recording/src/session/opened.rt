@@ -7,7 +7,7 @@ ghost use Rattle.net_udp.specs.Recording.{Step, standing_of};
 ghost use Rattle.audit_recording.specs.Blame.Frames.{Carried};
 ghost use Rattle.audit_recording.specs.Session.Kept.{IsSessionAfter, ReadsOn};
 ghost use Rattle.audit_recording.specs.Session.Noted.{Noticed, nothing_noticed};
-ghost use Rattle.audit_recording.specs.Session.Opened.{HasEnded, HasRead, IsReadOn, IsReadWhole, IsSessionClosed, left_of};
+ghost use Rattle.audit_recording.specs.Session.Opened.{HasEnded, HasRead, IsReadOn, IsReadWhole, IsSessionClosed, left_of, may_lose_in};
 
 use crate::session::fault::ReadFault;
 use crate::session::headed::{Headed, hint};
@@ -34,15 +34,13 @@ impl<R: Read + Drop> Opened<R> {
         ensures begun { IfOk result (λ opened. HasRead R.remaining (R.remaining reader) opened []) }
         ensures open { IfOk result (λ opened. standing_of opened.recording ≡ Standing.Open) }
     {
-        let headed = Headed::begin(reader);
-        let may_lose = headed.may_have_blocks();
-        let mut reader = Latched::new(headed);
+        let mut reader = Latched::new(Headed::new(reader));
         match RecordingReader::begin(alloc, &mut reader) {
             Ok(recording) => Ok(Opened {
+                may_lose: recording.may_lose(),
                 reader,
                 recording,
                 event: Event::empty(alloc),
-                may_lose,
             }),
             Err(fault) => Err(refused(&fault, reader.into_inner())),
         }
@@ -61,14 +59,17 @@ impl<R: Read + Drop> Opened<R> {
         ensures whole { result ≡ Ok false → standing_of self.new.recording ≡ Standing.Over → session.new.notes.fault ≡ session.old.notes.fault }
         ensures judging { session.new.audit.judge.judging ≡ session.old.audit.judge.judging }
         ensures wanted { session.new.kept.wanted ≡ session.old.kept.wanted }
+        ensures stays { may_lose_in self.new ≡ may_lose_in self.old }
+        ensures may_lose { session.new.notes.may_lose ≡ may_lose_in self.new }
     {
-        session.notes.may_lose = self.may_lose;
-        session.next(
+        let goes_on = session.next(
             alloc,
             &mut self.reader,
             &mut self.recording,
             &mut self.event,
-        )
+        );
+        session.notes.may_lose = self.may_lose;
+        goes_on
     }
 
     /// Reads no further: the fragments that still wait belong to nothing, and the recorder has told how many packets it lost.

@@ -1,5 +1,5 @@
 -- What a test of each extent tells of all.
-use Rattle.std.proofs.Common.{◌≡◌, ◌<◌, ◌↔◌, ℕ, zero, suc, Bool, true, false, IsTrue, MatchBool, inl, inr, List, [], ◌∷◌, length, refl, arith}
+use Rattle.std.proofs.Common.{◌<◌, ◌↔◌, ℕ, zero, suc, Bool, true, false, IsTrue, MatchBool, inl, inr, List, [], ◌∷◌, length, refl, arith}
 use Rattle.std.specs.List.{AllWithin, HoldsAt}
 use Rattle.std.proofs.lemmas.Bool.{false≢true}
 use Rattle.net_udp.specs.declared.fragments.extent.Extent.{Extent}

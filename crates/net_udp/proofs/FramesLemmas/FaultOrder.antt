@@ -1,9 +1,8 @@
 -- The faults stand in one order, and a packet has none.
 use Rattle.std.proofs.Common.{◌≡◌, ◌↔◌, inl, inr, ℕ, ◌<◌, ◌≤◌, true, false, List, length, refl, sym, ap, subst, ◌∙◌, arith, None, Some, Result, Ok, Err, IsOkAnd}
 use Rattle.std.proofs.lemmas.Bool.{cases_lt, false≢true}
-use Rattle.net_udp.specs.Frames.{at, Linked, IsCarried, link_named, Reached, Packet, HasHeader, size_of, total_of, Reaches, held_of, may_be_udp, packet_of, SpellsIp, IsLinked, SpellsFrame, Holds, HoldsIp, place, FirstFault, FirstIpFault, IsNotWhole, Judges, JudgesIp, shown}
+use Rattle.net_udp.specs.Frames.{Linked, IsCarried, link_named, Reached, Packet, HasHeader, size_of, total_of, Reaches, may_be_udp, packet_of, SpellsIp, IsLinked, SpellsFrame, Holds, HoldsIp, place, FirstFault, FirstIpFault, IsNotWhole, Judges, JudgesIp, shown}
 use Rattle.net_udp.specs.declared.frames.link.LinkType.{LinkType}
-use Rattle.net_udp.specs.declared.frames.link.Network.TheVariants.{Ipv4, Ipv6}
 use Rattle.net_udp.specs.declared.frames.packet.Direction.{Direction}
 use Rattle.net_udp.specs.declared.frames.packet.IpPacket.{IpPacket}
 use Rattle.net_udp.specs.declared.frames.fault.FrameFault.{FrameFault}

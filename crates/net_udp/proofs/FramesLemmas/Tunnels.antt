@@ -1,11 +1,11 @@
 -- Tunnels, one in another.
-use Rattle.std.proofs.Common.{◌≡◌, ◌≢◌, ◌↔◌, inl, inr, ℕ, zero, suc, ◌-◌, ◌<◌, ◌≤◌, ◌==◌, Bool, true, false, List, length, length-drop, length-take, drop, refl, sym, ap, subst, ◌∙◌, arith, Option, Some, None, MatchOption}
+use Rattle.std.proofs.Common.{◌≡◌, ◌↔◌, inl, inr, ℕ, zero, suc, ◌-◌, ◌<◌, ◌≤◌, ◌==◌, Bool, true, false, List, length, length-drop, length-take, drop, refl, sym, ap, subst, ◌∙◌, arith, Option, Some, None, MatchOption}
 use Rattle.std.proofs.lemmas.Bool.{false≢true}
 use Rattle.net_udp.specs.Frames.{CarriesTyped, Linked, Reached, HasHeader, Reaches, SpellsFrame, SpellsLink, IsCarried, IsInGre, IsInUdp, IsInside, IsLinked, IsMirrored, IsOfType, IsTunnel, LeadsIn, LeadsInOver, at, gre, gre_size, has_number, is_gre_read, is_mirror, is_mirror_read, is_opened, is_type_in_gre, is_wrapping, held_of, linked, mirror_size, over_udp_size, over_udp_type, payload_of, reached, link_named, may_be_udp, packet_of, pair, udp}
 use Rattle.net_udp.specs.Frames.Ip.{IsWhole, part_of}
 use Rattle.net_udp.specs.declared.frames.link.LinkType.{LinkType}
 use Rattle.net_udp.specs.declared.frames.link.Network.{Network}
-use Rattle.net_udp.specs.declared.frames.link.Network.TheVariants.{Ipv4, Ipv6}
+use Rattle.net_udp.specs.declared.frames.link.Network.TheVariants.{Ipv4}
 use Rattle.net_udp.specs.declared.frames.packet.Direction.{Direction}
 use Rattle.net_udp.specs.declared.frames.extension.Upper.{Upper}
 use Rattle.net_udp.specs.declared.frames.link.LinkContent.{LinkContent}

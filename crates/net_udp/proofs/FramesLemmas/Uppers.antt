@@ -1,5 +1,5 @@
 -- What a packet carries.
-use Rattle.std.proofs.Common.{◌≡◌, ◌<◌, ◌≤◌, inl, inr, ℕ, ◌-◌, List, length, length-drop, length-take, take, drop, sym, ap, subst, ◌∙◌, arith, Option, Some, None, MatchOption, refl, true, false}
+use Rattle.std.proofs.Common.{◌≡◌, ◌<◌, ◌≤◌, inl, inr, ℕ, ◌-◌, List, length, length-drop, length-take, drop, sym, ap, subst, ◌∙◌, arith, Option, Some, None, MatchOption, refl, true, false}
 use Rattle.std.proofs.lemmas.Bool.{false≢true}
 use Rattle.net_udp.specs.Frames.{at, Reached, ReachesOver, Reaches, ReachesInIpv4, held_of, is_wrapping, reached, HasHeader, SpellsIp, TellsHosts, leads_on, may_be_udp, packet_of, size_of, total_of}
 use Rattle.net_udp.specs.Frames.Ip.{IsWhole, part_of}

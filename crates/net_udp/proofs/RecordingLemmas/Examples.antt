@@ -17,7 +17,7 @@ use Rattle.net_udp.proofs.FragmentsLemmas.Rooms.{same_set, no_set}
 use Rattle.net_udp.specs.Frames.{SpellsFrame, Packet, HasUdp, HoldsUdp, SpellsUdp, Udp, Reached, acknowledgement, checksum_of, cooked_head, ipv4_bytes, ipv4_packet, pair, two_tags, udp_bytes, udp_left}
 use Rattle.net_udp.specs.declared.frames.checksum.Checksum.TheVariants.{Partial, Right, Wrong}
 use Rattle.net_udp.specs.declared.frames.link.LinkType.TheVariants.{Cooked, Ethernet, RawIpv4, RawIpv6}
-use Rattle.net_udp.specs.declared.frames.link.Network.TheVariants.{Ipv4, Ipv6}
+use Rattle.net_udp.specs.declared.frames.link.Network.TheVariants.{Ipv6}
 use Rattle.net_udp.specs.declared.frames.packet.Direction.TheVariants.{Out, Unknown}
 use Rattle.net_udp.specs.declared.frames.checksum.Checksum.{Checksum}
 use Rattle.net_udp.specs.declared.frames.fault.FrameFault.TheVariants.{Protocol}

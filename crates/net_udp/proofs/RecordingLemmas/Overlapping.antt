@@ -1,13 +1,13 @@
 -- The worked example of two fragments of IPv6 that overlap.
-use Rattle.std.proofs.Common.{◌≡◌, ◌≢◌, ℕ, Bool, true, false, inl, inr, List, [], ◌∷◌, length, Some, None, Vec, Global, refl, sym, ap, ◌∙◌, subst, arith, rules, Option}
+use Rattle.std.proofs.Common.{◌≡◌, ◌≢◌, ℕ, true, false, inl, inr, List, [], ◌∷◌, Some, None, Vec, Global, refl, sym, ap, ◌∙◌, subst, arith, rules, Option}
 use Rattle.net_udp.specs.Copies.{IsCopy}
 use Rattle.net_udp.specs.declared.fragments.extent.Extent.{Extent}
 use Rattle.net_udp.specs.declared.fragments.outcome.Outcome.TheVariants.{Waits, Apart, Full}
 use Rattle.net_udp.specs.declared.frames.link.LinkType.TheVariants.{RawIpv6}
 use Rattle.net_udp.specs.declared.frames.link.Network.TheVariants.{Ipv6}
 use Rattle.net_udp.specs.declared.frames.packet.Direction.TheVariants.{Unknown}
-use Rattle.net_udp.specs.Fragments.Whole.{Content, Part}
-use Rattle.net_udp.specs.Fragments.{Arrival, Give, IsKeptOf, IsSetOf, PutEnds, SetState, Sets, TakeEnds, extent_of, is_long, nothing_held, parts_of, room_under, same_key, set_at}
+use Rattle.net_udp.specs.Fragments.Whole.{Content}
+use Rattle.net_udp.specs.Fragments.{Arrival, Give, IsKeptOf, IsSetOf, PutEnds, SetState, Sets, TakeEnds, extent_of, is_long, nothing_held, parts_of, room_under, set_at}
 use Rattle.net_udp.specs.Frames.{SpellsFrame}
 use Rattle.net_udp.specs.Recording.{IsHistory, LetsGoOld, TakesPart, across_bytes, across_part, across_step, arrival_of, begun_bytes, begun_named, begun_part, begun_set, begun_step, data_key, frame_of_ipv6, last_named, recorded_first, torn_set, worked_time}
 use Rattle.net_udp.proofs.FragmentsLemmas.Holding.{Added, not_both, stands_more}

@@ -2,7 +2,6 @@
 -- port to which it goes, as Linux 6.18 tells it and tcpdump 4.99.3 records it.
 use Rattle.std.specs.Prelude.{ℕ, List, [], ◌∷◌, ◌++◌, take, drop}
 use Rattle.net_udp.specs.Frames.Worked.{host, host_of_ipv6}
-use Rattle.net_udp.specs.declared.frames.unreachable.Quoted.{Quoted}
 use Rattle.net_udp.specs.declared.frames.unreachable.Unreachable.{Unreachable}
 
 abbrev pub unreachable_bytes : List ℕ

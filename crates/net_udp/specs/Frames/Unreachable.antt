@@ -1,6 +1,5 @@
 -- Which frames tell a host that a UDP datagram did not arrive: ICMP, destination unreachable (RFC 792; RFC 4443, section 3.1).
-use Rattle.std.specs.Prelude.{◌≡◌, ◌+◌, ◌≤◌, ℕ, List, length, drop, Option, None, Some}
-use Rattle.std.specs.declared.net.ip_addr.IpAddr.{IpAddr}
+use Rattle.std.specs.Prelude.{◌≡◌, ◌≤◌, ℕ, List, length, drop, None, Some}
 use Rattle.net_udp.specs.Frames.Number.{at, pair}
 use Rattle.net_udp.specs.Frames.Link.{Linked}
 use Rattle.net_udp.specs.Frames.Extension.{Reached}

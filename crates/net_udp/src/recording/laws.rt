@@ -4,11 +4,11 @@ ghost use Rattle.net_udp.specs.Fragments.{content_of, same_key};
 ghost use Rattle.net_udp.specs.declared.fragments.content.Content.{Content};
 ghost use Rattle.net_udp.specs.Frames.{acknowledgement, ipv4_bytes};
 ghost use Rattle.net_udp.specs.declared.frames.checksum.Checksum.{Checksum};
-ghost use Rattle.net_pcap.specs.{IsWrong, FaultKind};
+ghost use Rattle.net_pcap.specs.{BeginsAsClassic, IsWrong, FaultKind, lost_of, may_lose};
 ghost use Rattle.net_udp.specs.Recording.Accounts.{IsSettled, IsWaiting, NoneTwice, ToldOneWay};
 ghost use Rattle.net_udp.specs.Recording.Brought.{key_of};
 ghost use Rattle.net_udp.specs.Recording.Contents.{IsPutTogether};
-ghost use Rattle.net_udp.specs.Recording.History.{IsHistory, Step, waiting};
+ghost use Rattle.net_udp.specs.Recording.History.{IsHistory, RecordingState, StandsFor, Step, waiting};
 ghost use Rattle.net_udp.specs.Recording.Fates.{IsDatagram, IsFateOf};
 ghost use Rattle.net_udp.specs.Recording.OneWay.{AreToldAlike, IsRead, IsReadTo};
 ghost use Rattle.net_udp.specs.Recording.Worked.{across_step, begun_step, cooked_step, ethernet_step, first_step, icmp_content, icmp_frame, last_named, last_part, last_step, left_bytes, part_of_icmp, part_of_udp, raw_frame, raw_step, recorded_raw, spoilt_acknowledgement, spoilt_bytes, spoilt_packet, worked_content};
@@ -34,6 +34,13 @@ pub fn each_frame_is_accounted_for_once()
 /// are the frames that it is told to be of.
 pub fn content_is_of_its_frames()
     ensures { (before : List Step) (step : Step) (content : Content) (frames : Vec ℕ) → IsHistory (step ∷ before) → step.brought.outcome ≡ Some (Outcome.Whole content frames) → IsPutTogether (step ∷ before) (content_of content) frames.items }
+{}
+
+/// A recording that can't say that packets were lost is a classic one by its first bytes, and a classic one says of none that it was lost,
+/// wherever its reader stands.
+pub fn classic_recordings_lose_nothing()
+    ensures begins { (reader : RecordingState) (bytes : List ℕ) (history : List Step) → StandsFor reader bytes history → may_lose reader.frames.pieces.mode.layout ≡ false → BeginsAsClassic bytes }
+    ensures loses { (reader : RecordingState) (bytes : List ℕ) (history : List Step) → StandsFor reader bytes history → BeginsAsClassic bytes → lost_of reader.frames.pieces.mode ≡ 0 }
 {}
 
 /// A recording is read in one way: two readings of the same bytes tell the same of each of its frames, in order: the same

@@ -1,6 +1,6 @@
 ghost use Rattle.std.specs.Prelude.{◌≡◌, ◌≢◌, ◌+◌, ◌++◌, ℕ, List, [], true, false, None, Ok, Err, IfOk, IfErr, OnOk};
 ghost use Rattle.std.specs.Io.KnownBytes.{prepend_known, Consumes, IsAtEnd};
-ghost use Rattle.net_pcap.specs.{FailsToBegin, FaultKind, lost_of};
+ghost use Rattle.net_pcap.specs.{FailsToBegin, FaultKind, lost_of, may_lose};
 ghost use Rattle.net_streams.specs.Streams.{KeepsAnswer, standing_after};
 ghost use Rattle.net_streams.specs.{Standing};
 ghost use Rattle.net_udp.specs.Recording.History.{Continues, StandsFor, Step, standing_of};
@@ -135,6 +135,15 @@ impl RecordingReader {
         ensures { result ≡ lost_of self.now.frames.pieces.mode }
     {
         self.frames.lost()
+    }
+
+    /// Whether the recording may say, here or later on, that packets were lost: one in blocks may, a classic one has no place
+    /// for it.
+    #[inline]
+    pub fn may_lose(&self) -> bool
+        ensures { result ≡ may_lose self.now.frames.pieces.mode.layout }
+    {
+        self.frames.may_lose()
     }
 
     /// The fragments that still wait: at the end of the recording, or at its fault, those of packets that were never whole.

@@ -1,6 +1,6 @@
-use Rattle.std.proofs.Common.{◌≡◌, ℕ, ap, arith, slice_index_or}
+use Rattle.std.proofs.Common.{ℕ, ap, arith, slice_index_or}
 use Rattle.std.proofs.lemmas.Grind.{common_steps}
-use Rattle.net_pcap.specs.{NamedInterface, with_missed}
+use Rattle.net_pcap.specs.{with_missed}
 use Rattle.net_pcap.proofs.Statistics.{changed_is, lost_more, no_interface_there, none_changed}
 use Rattle.net_pcap.proofs.losses.miss.Goals as goal
 

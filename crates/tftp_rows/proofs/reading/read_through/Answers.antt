@@ -1,4 +1,5 @@
-use Rattle.audit_recording.specs.Session.Opened.{HasRead, left_of}
+use Rattle.audit_recording.specs.Session.Opened.{HasRead, left_of, may_lose_in}
+use Rattle.audit_recording.proofs.SessionLemmas.Opened.{none_lost}
 use Rattle.tftp_rows.proofs.FaultLemmas.{same_fault}
 use Rattle.tftp_rows.proofs.ReadingLemmas.{begins_reading, closed_then, reads_none, stops_there}
 use Rattle.tftp_rows.proofs.TellingLemmas.{on_err}
@@ -13,29 +14,30 @@ returns-in_err-read-clause-part g c named is none zero =
     let file = g.R.Read.remaining c.args.reader in
     on_err c.from_residual-in_err-read.result
     (c.in_err-read.ensures.part c.args.teller.now file named
-    (begins_reading g.W.Write.contents c.args.teller.now (HasRead g.R.Read.remaining file c.in_ok-opened.opened) c.args.session.now named none zero c.in_ok-opened.ensures.begun is))
+    (begins_reading g.W.Write.contents (may_lose_in c.in_ok-opened.opened) c.args.teller.now (HasRead g.R.Read.remaining file c.in_ok-opened.opened) c.args.session.now named none zero c.in_ok-opened.ensures.begun is))
 
 pub returns-in_err-closed-clause-part : goal.returns-in_err-closed-clause-part
 returns-in_err-closed-clause-part g c named is none zero =
     let file = g.R.Read.remaining c.args.reader in
     let on = c.in_ok-read.ensures.told c.args.teller.now file named
-    (begins_reading g.W.Write.contents c.args.teller.now (HasRead g.R.Read.remaining file c.in_ok-opened.opened) c.args.session.now named none zero c.in_ok-opened.ensures.begun is) in
+    (begins_reading g.W.Write.contents (may_lose_in c.in_ok-opened.opened) c.args.teller.now (HasRead g.R.Read.remaining file c.in_ok-opened.opened) c.args.session.now named none zero c.in_ok-opened.ensures.begun is) in
     on_err c.from_residual-in_err-closed.result
-    (stops_there g.W.Write.contents c.args.teller.now c.tell_frames-read.new.teller file (left_of g.R.Read.remaining c.tell_frames-read.new.opened) c.tell_frames-read.new.opened.recording c.tell_frames-read.new.session c.args.session.now.audit.judge.judging named on
+    (stops_there g.W.Write.contents (may_lose_in c.tell_frames-read.new.opened) c.args.teller.now c.tell_frames-read.new.teller file (left_of g.R.Read.remaining c.tell_frames-read.new.opened) c.tell_frames-read.new.opened.recording c.tell_frames-read.new.session c.args.session.now.audit.judge.judging named on
     c.in_ok-read.ensures.judging)
 
 pub returns-clause-told : goal.returns-clause-told
 returns-clause-told g c named is none zero =
     let file = g.R.Read.remaining c.args.reader in
     let on = c.in_ok-read.ensures.told c.args.teller.now file named
-    (begins_reading g.W.Write.contents c.args.teller.now (HasRead g.R.Read.remaining file c.in_ok-opened.opened) c.args.session.now named none zero c.in_ok-opened.ensures.begun is) in
-    closed_then g.W.Write.contents c.args.teller.now c.tell_frames-read.new.teller file (left_of g.R.Read.remaining c.tell_frames-read.new.opened) c.tell_frames-read.new.opened.recording c.tell_frames-read.new.session c.close-closed.new.session named on
+    (begins_reading g.W.Write.contents (may_lose_in c.in_ok-opened.opened) c.args.teller.now (HasRead g.R.Read.remaining file c.in_ok-opened.opened) c.args.session.now named none zero c.in_ok-opened.ensures.begun is) in
+    closed_then g.W.Write.contents (may_lose_in c.tell_frames-read.new.opened) c.args.teller.now c.tell_frames-read.new.teller file (left_of g.R.Read.remaining c.tell_frames-read.new.opened) c.tell_frames-read.new.opened.recording c.tell_frames-read.new.session c.close-closed.new.session named on
     (c.in_ok-read.ensures.at_end c.in_ok-opened.ensures.open) c.in_ok-read.ensures.ends c.in_ok-closed.ensures.judging c.in_ok-closed.ensures.fault
     (λ out history carried s after. c.in_ok-closed.ensures.closed named out history carried s after)
+    (λ history read. none_lost g.R.Read.remaining file c.tell_frames-read.new.opened history read)
 
 pub returns-in_err-read-clause-why : goal.returns-in_err-read-clause-why
 returns-in_err-read-clause-why g c named is none zero =
     let file = g.R.Read.remaining c.args.reader in
     same_fault c.from_residual-in_err-read.result _ _ c.from_residual-in_err-read.ensures.1
     (c.in_err-read.ensures.why c.args.teller.now file named
-    (begins_reading g.W.Write.contents c.args.teller.now (HasRead g.R.Read.remaining file c.in_ok-opened.opened) c.args.session.now named none zero c.in_ok-opened.ensures.begun is))
+    (begins_reading g.W.Write.contents (may_lose_in c.in_ok-opened.opened) c.args.teller.now (HasRead g.R.Read.remaining file c.in_ok-opened.opened) c.args.session.now named none zero c.in_ok-opened.ensures.begun is))

@@ -1,4 +1,4 @@
-use Rattle.std.proofs.Common.{◌≡◌, Some, ap, subst, sym, ◌∙◌}
+use Rattle.std.proofs.Common.{Some, ap, subst, sym, ◌∙◌}
 use Rattle.audit_recording.specs.Blame.Kept.{Accepts}
 use Rattle.audit_recording.specs.declared.rows.row.Point.TheVariants.{Client}
 use Rattle.audit_recording.proofs.BlameLemmas.Telling.{accepts_at_client, refuses_at_client}

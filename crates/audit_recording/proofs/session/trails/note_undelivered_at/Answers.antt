@@ -1,4 +1,4 @@
-use Rattle.std.proofs.Common.{ap, is_some, subst, sym, Some, ℕ}
+use Rattle.std.proofs.Common.{ap, is_some, subst, sym, ℕ}
 use Rattle.std.specs.BTreeMap.{BTreeMap}
 use Rattle.audit_recording.specs.Session.Trails.{AreTrailsKept}
 use Rattle.audit_recording.specs.declared.blame.trail.Trail.{Trail}

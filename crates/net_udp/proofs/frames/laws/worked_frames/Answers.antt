@@ -1,8 +1,8 @@
-use Rattle.std.proofs.Common.{◌++◌, [], ◌∷◌, inl, inr, refl, arith, Some, None}
+use Rattle.std.proofs.Common.{◌++◌, [], ◌∷◌, inl, inr, refl, arith, None}
 use Rattle.net_udp.specs.Frames.{cooked_head, two_old_tags, two_tags, udp_bytes_of_ipv6, ipv4_bytes, ipv4_with_options, ipv4_fragment, ipv6_with_extensions, ipv6_fragment, ipv6_fragment_of_icmp, ipv6_routed, ipv6_part}
 use Rattle.net_udp.specs.Frames.Worked.{cooked_two_head, null_head}
 use Rattle.net_udp.specs.declared.frames.link.LinkType.TheVariants.{Null, Ethernet, Raw, Cooked, RawIpv4, RawIpv6, CookedTwo}
-use Rattle.net_udp.specs.declared.frames.link.Network.TheVariants.{Ipv4, Ipv6}
+use Rattle.net_udp.specs.declared.frames.link.Network.TheVariants.{Ipv6}
 use Rattle.net_udp.specs.declared.frames.packet.Direction.TheVariants.{Unknown, In, Out}
 use Rattle.net_udp.proofs.FramesLemmas.Tunnels.{spells, spells_ipv4}
 use Rattle.net_udp.proofs.frames.laws.worked_frames.Goals as goal

@@ -1,4 +1,4 @@
-use Rattle.std.proofs.Common.{◌++◌, inl, inr, refl, arith, Some, None}
+use Rattle.std.proofs.Common.{◌++◌, inl, inr, refl, arith, None}
 use Rattle.net_udp.specs.Frames.{udp_bytes, udp_bytes_of_ipv6, ipv4_bytes, ipv4_authenticated, ipv6_authenticated, labels_head, session_head, snap_head}
 use Rattle.net_udp.specs.declared.frames.link.LinkType.TheVariants.{Ethernet, RawIpv4, RawIpv6}
 use Rattle.net_udp.specs.declared.frames.link.Network.TheVariants.{Ipv4, Ipv6}

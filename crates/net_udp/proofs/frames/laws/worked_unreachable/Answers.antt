@@ -1,4 +1,4 @@
-use Rattle.std.proofs.Common.{inl, refl, arith, ℕ, List, ◌≡◌, drop, Some, None}
+use Rattle.std.proofs.Common.{inl, refl, arith, ℕ, List, drop, Some, None}
 use Rattle.net_udp.specs.Frames.{Linked, held_of, ipv4_bytes}
 use Rattle.net_udp.specs.Frames.Told.{echo_bytes, unreachable_bytes, unreachable_cut, unreachable_ipv6_bytes}
 use Rattle.net_udp.specs.Frames.Unreachable.{CarriesWhole}

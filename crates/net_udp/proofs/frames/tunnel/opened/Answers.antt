@@ -1,4 +1,3 @@
-use Rattle.std.proofs.Common.{◌≡◌, sym, ◌∙◌, Some, None}
 use Rattle.net_udp.specs.Frames.{linked}
 use Rattle.net_udp.proofs.FramesLemmas.Tunnels.{opened_by}
 use Rattle.net_udp.proofs.frames.tunnel.opened.Goals as goal

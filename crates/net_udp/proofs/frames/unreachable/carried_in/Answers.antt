@@ -1,4 +1,4 @@
-use Rattle.std.proofs.Common.{rules, sym, ◌∙◌}
+use Rattle.std.proofs.Common.{sym, ◌∙◌}
 use Rattle.net_udp.specs.Frames.{reached}
 use Rattle.net_udp.proofs.FramesLemmas.Unreached.{another_protocol, in_part}
 use Rattle.net_udp.proofs.frames.unreachable.carried_in.Goals as goal

@@ -1,4 +1,4 @@
-use Rattle.std.proofs.Common.{◌≡◌, ℕ, List, sym, subst, ap, ◌∙◌}
+use Rattle.std.proofs.Common.{ℕ, List, sym, subst, ◌∙◌}
 use Rattle.net_udp.specs.Frames.Unreachable.{CarriesWhole, Quotes}
 use Rattle.net_udp.specs.declared.frames.unreachable.Quoted.{Quoted}
 use Rattle.net_udp.proofs.FramesLemmas.Unreached.{another_type, no_header, no_quote}

@@ -1,4 +1,4 @@
-use Rattle.std.proofs.Common.{◌≡◌, ◌∷◌, ap, is_some, subst, sym, ◌∙◌}
+use Rattle.std.proofs.Common.{◌∷◌, ap, is_some, subst, sym, ◌∙◌}
 use Rattle.audit_recording.specs.Judges.Kept.{BetweenStands, ClientStands, ServerStands}
 use Rattle.audit_recording.specs.Judges.{rollover_of}
 use Rattle.audit_views.specs.Parties.{host_name}

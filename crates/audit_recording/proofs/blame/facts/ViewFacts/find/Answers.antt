@@ -1,4 +1,4 @@
-use Rattle.std.proofs.Common.{◌≡◌, ◌<◌, ◌≤◌, ◌∙◌, arith, refl, sym}
+use Rattle.std.proofs.Common.{◌∙◌, arith, sym}
 use Rattle.audit_recording.specs.Blame.Frames.{is_seen}
 use Rattle.audit_recording.specs.Blame.Kept.{placed_by}
 use Rattle.audit_recording.proofs.BlameLemmas.Holding.{rest_past, rest_other}

@@ -1,4 +1,4 @@
-use Rattle.std.proofs.Common.{sym, ap, ◌∙◌, None}
+use Rattle.std.proofs.Common.{sym, ◌∙◌}
 use Rattle.audit_recording.specs.Blame.Frames.{framed, whole_of}
 use Rattle.audit_recording.specs.Judges.{rollover_of}
 use Rattle.audit_recording.proofs.BlameLemmas.Answering.{blamed_at_server}

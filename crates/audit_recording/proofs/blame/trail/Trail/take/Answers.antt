@@ -1,4 +1,4 @@
-use Rattle.std.proofs.Common.{◌≡◌, ◌∷◌, map, refl, ap, subst, sym, ◌∙◌}
+use Rattle.std.proofs.Common.{◌∷◌, map, refl, ap, subst, sym, ◌∙◌}
 use Rattle.audit_flows.specs.{Transfer, TransferDoubts, TransferEnds}
 use Rattle.audit_flows.specs.Transfers.{AreEndsAfter, IsDoubtedAfter}
 use Rattle.audit_recording.specs.declared.blame.blame.Blame.{Blame}

@@ -1,9 +1,8 @@
 use Rattle.std.proofs.Common.{◌≡◌}
 use Rattle.audit_recording.proofs.session.headed.Headed.keep.Given as goal
 
--- the reader and the byte that is ahead stay
+-- the reader stays
 abbrev pub invariant-loop-byte : goal.invariant-loop-byte
 invariant-loop-byte g l = record {
   inner : l.self.inner ≡ l.initial.self.inner;
-  ahead : l.self.ahead ≡ l.initial.self.ahead;
 }

@@ -1,4 +1,4 @@
-use Rattle.std.proofs.Common.{MatchBool, false, true, sym, subst}
+use Rattle.std.proofs.Common.{MatchBool, sym, subst}
 use Rattle.audit_recording.specs.Losses.Kept.{of_host}
 use Rattle.audit_recording.specs.Session.Over.{IsWaitingAt}
 use Rattle.audit_recording.proofs.LossesLemmas.Waiting.{HasNone, HasOne, own_waits, unknown_told}

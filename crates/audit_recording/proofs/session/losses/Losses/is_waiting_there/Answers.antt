@@ -1,4 +1,4 @@
-use Rattle.std.proofs.Common.{Some, None, sym, ap, subst, ◌∙◌, MatchBool}
+use Rattle.std.proofs.Common.{sym, ap, subst, ◌∙◌, MatchBool}
 use Rattle.std.specs.BTreeMap.{get}
 use Rattle.audit_flows.specs.Lines.{endpoint_cmp}
 use Rattle.audit_recording.specs.Losses.Kept.{waits_at}

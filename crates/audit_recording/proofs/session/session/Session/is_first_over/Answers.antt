@@ -1,4 +1,4 @@
-use Rattle.std.proofs.Common.{◌≡◌, MatchBool, true, false, Some, None, is_some, sym, ap, subst, ◌∙◌}
+use Rattle.std.proofs.Common.{◌≡◌, MatchBool, true, false, is_some, sym, ap, subst, ◌∙◌}
 use Rattle.std.proofs.lemmas.Bool.{false≢true}
 use Rattle.audit_recording.specs.Session.Over.{IsOldestOver}
 use Rattle.audit_recording.proofs.LossesLemmas.Waiting.{nothing_at}

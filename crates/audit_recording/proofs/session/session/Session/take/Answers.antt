@@ -1,4 +1,4 @@
-use Rattle.std.proofs.Common.{◌≡◌, ◌∷◌, ◌≤◌, ◌<◌, arith, refl, ap, subst, sym, List, ℕ}
+use Rattle.std.proofs.Common.{◌≡◌, ◌∷◌, ◌≤◌, ◌<◌, arith, refl, ap, subst, List, ℕ}
 use Rattle.net_udp.specs.Fragments.{Sets}
 use Rattle.net_udp.specs.Recording.{EventState, IsFateOf}
 use Rattle.net_udp.specs.{Fate}

@@ -1,4 +1,4 @@
-use Rattle.std.proofs.Common.{◌≡◌, ◌+◌, ◌*◌, ◌≤◌, false, List, [], ◌∷◌, Option, None, refl, sym, ap, ◌∙◌, subst, arith}
+use Rattle.std.proofs.Common.{◌≡◌, ◌+◌, ◌*◌, ◌≤◌, List, [], ◌∷◌, Option, None, refl, sym, ap, ◌∙◌, subst, arith}
 use Rattle.net_udp.specs.Fragments.{end_of, content_of, part_of, Arrival, IsSetOf, MayJoin, SetState, TakeEnds, room_of, Comes, Sets, frames_of, room_of_all, set_at}
 use Rattle.net_udp.proofs.FragmentsLemmas.Holding.{not_both}
 use Rattle.net_udp.proofs.FragmentsLemmas.Puts.{came_first, empty_set, given, not_given, nothing_joins, nothing_kept}
