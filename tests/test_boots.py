@@ -3,6 +3,7 @@ records what passes. Each file must come over, and be written as the server has 
 from __future__ import annotations
 
 import hashlib
+import itertools
 import json
 import pathlib
 import random
@@ -22,6 +23,8 @@ I_PXE = tuple(pathlib.Path(folder) / "pxe-e1000.rom" for folder in ("/usr/lib/ip
 SERVER = "10.0.2.2"
 # So many seconds a machine has to come to the next prompt.
 LIMIT = 60.0
+# So many bytes are more than 65,535 blocks of 512.
+LARGE = 34_000_000
 FILES = {"image.bin": 100_000, "whole.bin": 1428 * 4, "empty.bin": 0}
 LOADS = ("imgfetch", "image.bin"), ("imgfetch", "missing.bin ||"), ("chain", "last.ipxe")
 CHAIN = "#!ipxe\n" + "".join(f"{command} tftp://{SERVER}/{name}\n" for command, name in LOADS)
@@ -104,22 +107,42 @@ class Boots(Checks):
         holds = [(it["role"], it["code"], it["message"]) for it in ended] == [("server", 1, "File not found")]
         self.check("the ERROR of the file that is not there", holds, rows)
 
-    def test_u_boot(self) -> None:
+    def loads(self, served: pathlib.Path, recording: pathlib.Path, lines: list[str]) -> None:
+        """U-Boot is told these lines, one at each prompt."""
         if not U_BOOT.exists():
             self.skipTest("U-Boot for QEMU is not installed")
-        served, recording = self.served(), self.folder / "u-boot.pcap"
         machine = Machine(served, recording, ["-bios", str(U_BOOT)])
         self.addCleanup(machine.end)
-        names = ["image.bin", "whole.bin", "missing.bin"]
         self.check("U-Boot starts", machine.wait(b"autoboot"), bytes(machine.told))
         machine.say("")
-        loads = [f"tftpboot 1000000 {SERVER}:{name}" for name in names]
-        for place, line in enumerate(["setenv autoload no", "dhcp", *loads], 1):
+        lines = ["setenv autoload no", "dhcp", *lines]
+        for place, line in enumerate(lines, 1):
             machine.wait(b"=> ", place)
             machine.say(line)
-        self.check("U-Boot loads", machine.wait(b"=> ", len(names) + 3), bytes(machine.told))
+        self.check("U-Boot loads", machine.wait(b"=> ", len(lines) + 1), bytes(machine.told))
         machine.end()
+
+    def test_u_boot(self) -> None:
+        served, recording = self.served(), self.folder / "u-boot.pcap"
+        names = ["image.bin", "whole.bin", "missing.bin"]
+        self.loads(served, recording, [f"tftpboot 1000000 {SERVER}:{name}" for name in names])
         self.try_recording(served, recording, names)
+
+    def test_u_boot_large(self) -> None:
+        """Of more than 65,535 blocks, which go on with number 0: the file is accepted by that, and by 1 it is refused."""
+        served, recording, content = self.served(), self.folder / "large.pcap", random.Random(8).randbytes(LARGE)
+        (served / "large.bin").write_bytes(content)
+        self.loads(served, recording, ["setenv tftpblocksize 512", f"tftpboot 1000000 {SERVER}:large.bin"])
+        accepted = f"accepted get octet blocks {LARGE // 512 + 1} bytes {LARGE}"
+        for end, given in itertools.product(("client", "server", "between"), ("0", "1")):
+            words = [TRANSFERS.path, "check", "--json", "--end", end, "--rollover", given, str(recording)]
+            row = json.loads(subprocess.run(words, capture_output=True, text=True, timeout=120).stdout)
+            holds = row["verdict"] == accepted if given == "0" else row["verdict"].startswith("refused ")
+            self.check(f"at the {end}, by {given}", holds, row)
+        text = subprocess.run([TRANSFERS.path, "text", "1", "client", str(recording)], capture_output=True, timeout=120)
+        words = [AUDIT.path, "extract", "--rollover", "0"]
+        done = subprocess.run(words, input=text.stdout, capture_output=True, timeout=120)
+        self.check("the file", (done.stdout == content, done.returncode) == (True, 0), done.stderr)
 
     def test_ipxe(self) -> None:
         if not any(path.exists() for path in I_PXE):

@@ -406,7 +406,10 @@ def refused_between() -> tuple[Passing, ...]:
     return (
         (
             refusal(2, Rule.WRONG_PORT), asking(WRITE) + out(data(1, b"hi")),
-            ("It goes to 192.0.2.1 port 41000, from where nothing had passed.",),
+            (
+                "It goes to 192.0.2.1 port 41000, from where nothing had passed.",
+                "If lost: lawful if 1 datagram is missing: 1 from the server before datagram 2 (line 8, frame 2).",
+            ),
         ),
         (
             refusal(5, Rule.STRAY_ANSWER), two + out(ack(1)) + [stray, answered],
@@ -421,7 +424,10 @@ def refused_between() -> tuple[Passing, ...]:
         ),
         (
             refusal(3, Rule.WINDOW_OVERRUN), two + back(data(2, b"!")),
-            ("No block was acknowledged before it.", "from 192.0.2.1 port 41000 to port 40000 of the client: DATA"),
+            (
+                "No block was acknowledged before it.", "from 192.0.2.1 port 41000 to port 40000 of the client: DATA",
+                "If lost: lawful if 1 datagram is missing: 1 from the client before datagram 3 (line 10, frame 3).",
+            ),
         ),
         (
             refusal(3, Rule.ACK_AHEAD), begun + back(error(1, "no")) + out(ack(1)),
@@ -566,13 +572,15 @@ class Explained(Checks):
             self.check(f"tftp-explain, {name}, {it}", it in plain(output + errors), (output, errors))
 
     def test_between(self) -> None:
-        """Refusals between the ends: what had passed, and what counts of it after an ERROR."""
+        """Refusals between the ends: what had passed, what counts of it after an ERROR, and what must be missing."""
         path = self.folder / "between.pcap"
         for wanted, passed, said in (*refused_between(), *refused_late()):
             path.write_bytes(made.file_of(passed))
             output, errors, status = run([*self.programs, path, 1, "between"])
             line = output.partition("\n")[0]
             self.check(f"between, {wanted}", (line, status) == (wanted, 1), (output, errors))
+            is_lost = any(it.startswith("If lost: ") for it in said)
+            self.check(f"between, {wanted}, lost", ("\nIf lost: " in output) == is_lost, output)
             for it in said:
                 self.check(f"between, {wanted}, {it}", it in plain(output), output)
         digest = hashlib.sha256(WHOLE + b"!").hexdigest()

@@ -249,12 +249,13 @@ class Report(Checks):
         path, passed = self.folder / "missing.pcap", made.read("a", 40_000, 41_000)
         gone = next(place for place, it in enumerate(passed) if it.payload[:4] == data(1, b"")[0])
         path.write_bytes(made.file_of(passed[:gone] + passed[gone + 1 :]))
-        output, errors, status = run([*self.programs, "--end", "client", path])
-        words = self.try_whole("a block is missing", output).text()
-        self.check("a block is missing, status", (errors, status) == ("", 1), (errors, status))
         told = "If lost lawful if 1 datagram is missing: 1 from the server before datagram 2 (line"
-        self.check("a block is missing, in words", told in words, words)
-        self.check("a block is missing, in the picture", "missing here: 1 from the server" in words, words)
+        for end in ("client", "between"):
+            output, errors, status = run([*self.programs, "--end", end, path])
+            words = self.try_whole(f"a block is missing, {end}", output).text()
+            self.check(f"a block is missing, {end}, status", (errors, status) == ("", 1), (errors, status))
+            self.check(f"a block is missing, {end}, in words", told in words, words)
+            self.check(f"a block is missing, {end}, in the picture", "missing here: 1 from the server" in words, words)
 
     def test_others(self) -> None:
         """Names with the signs of HTML, doubts, notes, recordings that come in, and what is no recording."""

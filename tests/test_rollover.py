@@ -21,7 +21,7 @@ from fuzzing.rounds import Rounds
 from fuzzing.slow_judge import Rollover
 from fuzzing.transfers import ENDS
 from judged import checked
-from loopback import CLIENT, SERVER, Case, OverLoopback, record
+from loopback import ATFTPD, CLIENT, DNSMASQ, HPA, SERVER, Case, OverLoopback, record
 from normal import Meaning
 from programs import AUDIT, MATCH, TRANSFERS
 from recorded import Datagram
@@ -42,14 +42,13 @@ FILE = random.Random(7440).randbytes(COUNT * SIZE - 1)
 LARGE = "large.img"
 IMAGE = random.Random(2348).randbytes(40_000_000)
 BLOCKS = len(IMAGE) // 512 + 1
-HPA = f"in.tftpd -L -c -u root -a {SERVER}:69 -s ROOT"
-DNSMASQ = f"dnsmasq --no-daemon --conf-file=/dev/null --port=0 --enable-tftp --tftp-root=ROOT --listen-address={SERVER}"
-DNSMASQ += " --user=root --group=root --log-facility=LOG"
 CURL = f"curl -s -S --max-time 50 --interface {CLIENT} -o {LARGE}"
+WINDOWS = '--option "windowsize 8" --option "tsize 0" --option "blksize 512"'
 REAL = (
     Case("tftp-hpa", HPA, (f"tftp -4 -m octet {SERVER} -c get {LARGE}",), ()),
     Case("curl-hpa", HPA, (f"{CURL} --tftp-no-options tftp://{SERVER}/{LARGE}",), ()),
     Case("curl-dnsmasq", DNSMASQ, (f"{CURL} --tftp-blksize 512 tftp://{SERVER}/{LARGE}",), ()),
+    Case("atftp-atftpd", ATFTPD, (f"atftp -g -r {LARGE} -l {LARGE} {WINDOWS} {SERVER}",), ()),
 )
 
 
@@ -470,11 +469,31 @@ class Pairs(Checks):
             third = f"unmatched client datagram {place + 1} unsent server datagram {place + 2} waits"
             self.check(f"{given}", (lines[2:], errors, status) == ([third], "", 1), (lines, errors, status))
 
+    def test_counted(self) -> None:
+        """Each block and ACK is counted by its block, behind the first round too: one that the server sent twice, of which
+        one copy was lost, is another than the one with its number. In JSON likewise."""
+        for given in GIVEN:
+            passed = passed_of(int(given))
+            block = ROUND + 2
+            place = 3 + 2 * (block - 1)
+            server = made.file_of(passed[: place + 1] + passed[place:])
+            client = made.file_of(passed)
+            lines, errors, status = self.told(client, server, "--rollover", given, "--counts")
+            acks = [f"client ACK {it} sent 1 taken 1" for it in range(COUNT + 1)]
+            blocks = [f"server DATA {it} sent {1 + (it == block)} taken 1" for it in range(1, COUNT + 1)]
+            wanted = [self.ACCEPTED, self.ACCEPTED, "matched lost 1 repeated 0", "client request sent 1 taken 1"]
+            wanted += acks + ["server OACK sent 1 taken 1"] + blocks
+            differ = [it for it in itertools.zip_longest(lines, wanted) if it[0] != it[1]]
+            self.check(f"{given}", (differ, errors, status) == ([], "", 0), (differ[:3], errors, status))
+            told = json.loads(self.told(client, server, "--rollover", given, "--counts", "--json")[0][0])["counts"]
+            last = {"from": "server", "packet": "DATA", "block": COUNT, "sent": 1, "taken": 1}
+            self.check(f"{given}, JSON", (len(told), told[-1]) == (len(wanted) - 3, last), told[-1])
+
     def test_pair_words(self) -> None:
-        """The word says 0 or 1, and packets are not counted beside it."""
+        """The word says 0 or 1."""
         recording = made.file_of(made.read("a", 40_000, 41_000))
         refused: tuple[tuple[tuple[str, ...], str], ...] = (
-            (("--rollover", "2"), "2"), (("--rollover",), "--rollover"), (("--rollover", "0", "--counts"), "--counts"),
+            (("--rollover", "2"), "2"), (("--rollover",), "--rollover"),
         )
         for words, why in refused:
             lines, errors, status = self.told(recording, recording, *words)
@@ -598,7 +617,7 @@ class PairScripts(Checks):
 class Sent(OverLoopback):
     """What is said of 40 MB that real programs send."""
 
-    needs = (AUDIT, TRANSFERS)
+    needs = (AUDIT, TRANSFERS, MATCH)
 
     def test_sent(self) -> None:
         self.try_each(REAL, self.try_case)
@@ -620,6 +639,10 @@ class Sent(OverLoopback):
             self.check(f"{case.name}, {end}, extracted", said(text, "extract", "--rollover", "0") == (IMAGE, b"", 0))
             normals.add(said(text, "normal", "--rollover", "0"))
             self.try_recording(f"{case.name}, {end}", recording.read_bytes(), end)
+        for given, word in zip(GIVEN, ("matched lost 0 repeated 0", "unmatched ")):
+            words = [MATCH.path, "--rollover", given, "--transfer=1", "--server-transfer=1", str(recording), str(recording)]
+            lines = subprocess.run(words, capture_output=True, text=True, timeout=120).stdout.splitlines()
+            self.check(f"{case.name}, both, by {given}", len(lines) == 3 and lines[2].startswith(word), lines)
         holds = len(normals) == 1 and all(its[1:] == (b"", 0) and its[0].count(b" 0003") == BLOCKS for its in normals)
         self.check(f"{case.name}, one normal text", holds, [its[1:] for its in normals])
 

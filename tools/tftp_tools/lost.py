@@ -39,10 +39,12 @@ Gaps = tuple[Gap, ...]
 
 
 def gaps(audit: str, judged: Judged) -> Gaps:
-    """The places that the program finds where a datagram is refused at an end; its block numbers do not begin again."""
-    if not judged.verdict.refused() or judged.is_between() or judged.rollover:
+    """The places that the program finds where a datagram is refused; its block numbers do not begin again. What is refused
+    between the ends is lawful there too where it is so at the client."""
+    refused = judged.verdict.refused()
+    if not refused or judged.rollover:
         return ()
-    places = PLACE.findall(losses(audit, judged.text))
+    places = PLACE.findall(losses(audit, judged.text, refused[0]))
     return tuple(Gap(int(before), int(came or 0), int(sent or 0)) for came, sent, before in places)
 
 

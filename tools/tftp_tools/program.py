@@ -80,13 +80,14 @@ def check(program: str, text: bytes, rollover: str = "") -> Verdict:
     return Verdict(line, done.returncode)
 
 
-def losses(program: str, text: bytes) -> str:
-    """Which datagrams must be missing of a refused capture text, so that it is lawful with them, by the program;
-    nothing where it finds none."""
+def losses(program: str, text: bytes, refused: int) -> str:
+    """Which datagrams must be missing of a capture text whose datagram with this number is refused, so that it is lawful
+    with them, by the program; nothing where it finds none, or where it refuses another one or none."""
     with told(f"cannot run {program!r}"):
         done = subprocess.run([program, "check", "--losses"], input=text, stdout=subprocess.PIPE, check=False)
     lines = done.stdout.decode("ascii", "backslashreplace").splitlines()
-    return lines[1] if len(lines) == 2 and lines[1].startswith("lawful if ") else ""
+    is_found = len(lines) == 2 and lines[1].startswith("lawful if ") and lines[0].split()[2] == str(refused)
+    return lines[1] if is_found else ""
 
 
 def file_of(program: str, text: bytes, rollover: str = "") -> bytes:

@@ -1,11 +1,13 @@
 pub mod Alone
 pub mod Counting
 pub mod Distinct
+pub mod Faults
 pub mod Going
 pub mod Intact
 pub mod Lacking
 pub mod Lines
 pub mod Lost
+pub mod NotNone
 pub mod Noting
 pub mod Once
 pub mod Opened

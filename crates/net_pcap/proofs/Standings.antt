@@ -26,11 +26,6 @@ rest_ahead None after taken ahead c = tt
 rest_ahead (Some x) None taken ahead c = absurd c
 rest_ahead (Some x) (Some y) taken ahead c = c ∙ sym (append_assoc taken ahead y)
 
-end_rest : (known : Option (List ℕ)) (ahead : List ℕ) → IsAtEnd (prepend_known ahead known) → IsAtEnd known
-end_rest None ahead e = tt
-end_rest (Some xs) [] e = e
-end_rest (Some xs) (b ∷ bs) e = absurd (let x : ⊥ = cc in x)
-
 module _ (state new : PiecesState) (before after : Option (List ℕ)) (piece : List ℕ) (none : state.ahead ≡ []) (mode : state.mode ≡ start) (count : state.count ≡ 0) where
   goes : Stands ([] ++ []) state.mode state.count []
   goes = subst (λ (m : Mode). Stands [] m state.count []) (sym mode) (subst (λ (n : ℕ). Stands [] start n []) (sym count) nothing)
@@ -63,7 +58,7 @@ module _ (state new : PiecesState) (before after : Option (List ℕ)) (piece : L
         ahead = ahead;
         consumed = rest_ahead before end taken ahead (subst (λ (k : Option (List ℕ)). Consumes before k taken) is direct);
         tells = record { fails = record { good = []; part = taken; mode = state.mode; count = state.count; are = refl; stands = goes; rest = ends.0 }; number = refl };
-        text = λ h. elim (text h) as (λ _. IsAtEnd end ⊎ (12 ≤ length taken)) [ inl e ↦ inl (end_rest end ahead (subst IsAtEnd is e)) | inr long ↦ inr (subst (λ (l : List ℕ). 12 ≤ length l) (sym (ends.1 (inl h))) long) ];
+        text = λ h. elim (text h) as (λ _. IsAtEnd (prepend_known ahead end) ⊎ (12 ≤ length taken)) [ inl e ↦ inl (subst IsAtEnd is e) | inr long ↦ inr (subst (λ (l : List ℕ). 12 ≤ length l) (sym (ends.1 (inl h))) long) ];
       }
 
 consumes_nothing : (r : Option (List ℕ)) → Consumes r r ([] ++ [])

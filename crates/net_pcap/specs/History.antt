@@ -1,6 +1,6 @@
 -- What a reader of frames holds, and for what bytes and frames it stands.
 use Rattle.std.specs.Prelude.{◌≡◌, ◌+◌, ◌≤◌, ◌⊎◌, ℕ, Bool, true, false, List, [], ◌∷◌, ◌++◌, length, Option, Some, None, Result, Ok, Err}
-use Rattle.std.specs.Io.KnownBytes.{Consumes, IsAtEnd}
+use Rattle.std.specs.Io.KnownBytes.{Consumes, IsAtEnd, prepend_known}
 use Rattle.net_pcap.specs.Frames.{FrameParts, frame_at}
 use Rattle.net_pcap.specs.Pieces.{Mode, Stands, IsRecordingTo}
 use Rattle.net_pcap.specs.Stopping.{PiecesState, Stops, WantsMemory}
@@ -90,10 +90,10 @@ pub record Continues (new : ReaderState) (before after : Option (List ℕ)) (res
   pub stands : StandsFor new (bytes ++ taken) (with_answer frames result frame)
 
 -- Bytes were taken in which a header was looked for, and some more were read ahead. What is no recording is told by the
--- end, or by twelve bytes.
+-- end, where all were taken, or by twelve bytes.
 pub record FailsToBegin (before after : Option (List ℕ)) (fault : PcapFault) : Type 0 where
   pub taken : List ℕ
   pub ahead : List ℕ
   pub consumed : Consumes before after (taken ++ ahead)
   pub tells : FailsIn taken [] fault
-  pub text : fault.kind ≡ NotARecording → IsAtEnd after ⊎ (12 ≤ length taken)
+  pub text : fault.kind ≡ NotARecording → IsAtEnd (prepend_known ahead after) ⊎ (12 ≤ length taken)

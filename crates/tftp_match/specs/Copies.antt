@@ -24,9 +24,9 @@ of_block block = Data block ∷ Ack block ∷ []
 abbrev pub packets_to : ℕ → List CountedPacket
 packets_to n = Opening ∷ Error ∷ flat_map of_block (range_with_len 0 n)
 
--- so many numbers a block may have, in 16 bits (RFC 1350, section 5)
+-- more than each block that a number is read as: no block is above 8421375 that is near one of 8388607 or less
 unfoldable pub blocks : ℕ
-blocks = 65536
+blocks = 8421376
 
 -- ---- their copies
 
@@ -85,7 +85,7 @@ kind_word from Error = codes "ERROR"
 kind_word from (Data block) = codes "DATA"
 kind_word from (Ack block) = codes "ACK"
 
--- the number of its block
+-- its block
 abbrev pub block_of : CountedPacket → Option ℕ
 block_of Opening = None
 block_of Error = None

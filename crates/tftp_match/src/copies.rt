@@ -12,6 +12,9 @@ use std::alloc::{AllocError, Global};
 use std::fmt;
 use tftp_packet::End;
 
+/// More than each block that is near one of 8,388,607 or less.
+const BLOCKS: u32 = 8_421_376;
+
 /// Copies of a packet: those that one end sent, and those that the other took.
 #[derive(Clone, Copy, Debug, PartialEq, Eq)]
 pub struct Copies {
@@ -49,7 +52,7 @@ impl Copies {
         }
     }
 
-    /// The number of its block.
+    /// Its block.
     pub fn block(&self) -> Option<u64>
         ensures { result ≡ block_of self.now.packet }
     {
@@ -117,7 +120,10 @@ fn add_from(
 {
     add(copies, from, CountedPacket::Opening, sender, receiver)?;
     add(copies, from, CountedPacket::Error, sender, receiver)?;
-    for block in 0..=u16::MAX {
+    for block in 0..BLOCKS {
+        if !sender.reaches(block) && !receiver.reaches(block) {
+            return Ok(());
+        }
         add(copies, from, CountedPacket::Data(block), sender, receiver)?;
         add(copies, from, CountedPacket::Ack(block), sender, receiver)?;
     }

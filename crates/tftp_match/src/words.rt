@@ -48,19 +48,14 @@ fn request_in<'a>(
             "one capture at most is standard input",
         )?);
     }
-    let rollover = rollover_in(matches);
-    let counts = matches.get_flag("counts");
-    if counts && rollover.is_some() {
-        return Err(command.error(ErrorKind::ArgumentConflict, "--counts has no --rollover")?);
-    }
     Ok(Request {
         client,
         server,
         transfer: matches.get_one::<u64>("transfer"),
         server_transfer: matches.get_one::<u64>("server-transfer"),
         services: services_of(alloc, matches)?,
-        rollover,
-        counts,
+        rollover: rollover_in(matches),
+        counts: matches.get_flag("counts"),
         json: matches.get_flag("json"),
     })
 }

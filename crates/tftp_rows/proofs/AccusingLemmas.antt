@@ -27,12 +27,14 @@ use Rattle.audit_rows.specs.Viewing.{IsViewBy, found_in}
 use Rattle.audit_rows.specs.declared.judged.Judged.{Judged}
 use Rattle.audit_rows.specs.declared.viewed.Viewed.{Viewed}
 use Rattle.audit_cleared.specs.Accusing.{AccusesNobody, IsServerKnown, TellsOf}
-use Rattle.tftp_rows.specs.Accusing.{AccuseNobody, AccuseNobodyBetween, IsBetween, IsOfClient, IsOfServer}
+use Rattle.tftp_rows.specs.Accusing.{AccuseNobody, AccuseNobodyBetween, IsBetween, IsOfClient, IsOfServer, PartAccusesNobody, PartAccusesNobodyBetween}
 use Rattle.tftp_rows.specs.Telling.{AreRowsAt, IsRowAt, IsRowWith, places_of}
 use Rattle.tftp_rows.specs.Verdicts.{has_same_words}
-use Rattle.tftp_rows.specs.Whole.{AreOf, Telling, counted}
+use Rattle.tftp_rows.specs.Whole.{AreOf, AreTold, IsEndOf, IsToldPart, Part, Telling, counted}
 use Rattle.tftp_rows.specs.declared.row.VerdictRow.{VerdictRow}
-use Rattle.tftp_rows.proofs.TellingLemmas.{all_appended}
+use Rattle.tftp_rows.proofs.FinalLemmas.{are_of}
+use Rattle.tftp_rows.proofs.TellingLemmas.{all_appended, all_first}
+use Rattle.tftp_rows.proofs.WholeLemmas.{told_by_end}
 
 -- ---- the places of rows
 
@@ -63,6 +65,9 @@ all_there client server between alike = all_appended IsRowThere (ends_told clien
 
 all_places : (j : Judged) → AllByRecursion IsRowThere (places_of j)
 all_places j = all_there (said_there j.client) (said_there j.server) (said_there j.between) (are_alike j.client j.server (has_same_words (found_in j.client) (found_in j.server)))
+
+part_places : (j : Judged) (first others : List Row) → places_of j ≡ first ++ others → AllByRecursion IsRowThere first
+part_places j first others are = all_first IsRowThere first others (subst (AllByRecursion IsRowThere) are (all_places j))
 
 -- so a row of a place is told by what was seen at its point
 client_point : (r : Row) → IsRowThere r → IsOfClient r.place → r.point ≡ point.Client
@@ -122,14 +127,29 @@ module _ (judging : Judging) (carried : List Carried) where
       ∙ there.1 j.doubted told.telling (record { opens = opens; view = there.0; doubts = of.kept.number; point = to.point ∙ is; said = to.said })
 
   -- what a row of this place tells of the transfer accuses nobody
+  some_clear : (IsThere : Place → Type 0) (at : Point) → ((r : Row) → IsRowThere r → IsThere r.place → r.point ≡ at)
+      → (name : List ℕ) (n : ℕ) (t : Telling) (places : List Row) → AllByRecursion IsRowThere places
+      → opened t.transfer.number (whole_of [] carried) ≡ Some t.transfer → IsJudgedOf t.judged judging t.transfer [] carried
+      → AreRowsAt name n t.judged places t.rows → ((v : Viewed) → view_at at t.judged ≡ Some v → IsViewBy None at t.transfer [] carried v × IsClear at t.transfer v)
+      → (row : VerdictRow) → Contains t.rows row → IsThere row.place → row.charge.accused ≡ None
+  some_clear IsThere at point_of name n t places are_there opens of rows clear row among there =
+      let it = at_place name n t.judged places t.rows row are_there rows among in
+      let (told, to, is) = it.is in
+      row_clear name n t.judged t.transfer it.place row at opens of (point_of it.place it.there (subst IsThere (is.place ∙ to.place) there)) it.is clear
+
+  -- what is told of it whole, and in part
   rows_clear : (IsThere : Place → Type 0) (at : Point) → ((r : Row) → IsRowThere r → IsThere r.place → r.point ≡ at)
       → (name : List ℕ) (n : ℕ) (t : Telling) → opened t.transfer.number (whole_of [] carried) ≡ Some t.transfer → IsJudgedOf t.judged judging t.transfer [] carried
       → AreRowsAt name n t.judged (places_of t.judged) t.rows → ((v : Viewed) → view_at at t.judged ≡ Some v → IsViewBy None at t.transfer [] carried v × IsClear at t.transfer v)
       → (row : VerdictRow) → Contains t.rows row → IsThere row.place → row.charge.accused ≡ None
-  rows_clear IsThere at point_of name n t opens of rows clear row among there =
-      let it = at_place name n t.judged (places_of t.judged) t.rows row (all_places t.judged) rows among in
-      let (told, to, is) = it.is in
-      row_clear name n t.judged t.transfer it.place row at opens of (point_of it.place it.there (subst IsThere (is.place ∙ to.place) there)) it.is clear
+  rows_clear IsThere at point_of name n t opens of rows clear = some_clear IsThere at point_of name n t (places_of t.judged) (all_places t.judged) opens of rows clear
+
+  part_clear : (IsThere : Place → Type 0) (at : Point) → ((r : Row) → IsRowThere r → IsThere r.place → r.point ≡ at)
+      → (name : List ℕ) (older : List Telling) (t : Telling) → IsToldPart name judging [] carried t older
+      → ((v : Viewed) → view_at at t.judged ≡ Some v → IsViewBy None at t.transfer [] carried v × IsClear at t.transfer v)
+      → (row : VerdictRow) → Contains t.rows row → IsThere row.place → row.charge.accused ≡ None
+  part_clear IsThere at point_of name older t told clear =
+      some_clear IsThere at point_of name (counted (t ∷ older)) t told.first (part_places t.judged told.first told.others told.places) told.next.opens told.of told.rows clear
 
   module _ (none : rollover_of judging ≡ None) where
     view_of : (at : Point) (o : Option Viewed) (x : Transfer) (v : Viewed) → IfSome o (IsViewBy (rollover_of judging) at x [] carried) → o ≡ Some v → IsViewBy None at x [] carried v
@@ -151,6 +171,22 @@ module _ (judging : Judging) (carried : List Carried) where
       λ is_client. rows_clear IsOfServer point.Server server_point name (counted (t ∷ older)) t opens of rows
           (λ v is. (view_of point.Server t.judged.server t.transfer v of.server is, clear t.transfer v is_client)),
       servers_clear clients clear name older rest,
+    )
+
+    pub client_part : (clients : List Endpoint) → ((x : Transfer) (v : Viewed) → Contains clients x.client → IsClear point.Client x v)
+        → (name : List ℕ) (tellings : List Telling) → PartAccusesNobody IsOfClient clients name judging carried tellings
+    client_part clients clear name tellings t told = (
+      λ is_client. part_clear IsOfClient point.Client client_point name tellings t told
+          (λ v is. (view_of point.Client t.judged.client t.transfer v told.of.client is, clear t.transfer v is_client)),
+      tt,
+    )
+
+    pub server_part : (clients : List Endpoint) → ((x : Transfer) (v : Viewed) → Contains clients x.client → IsClear point.Server x v)
+        → (name : List ℕ) (tellings : List Telling) → PartAccusesNobody IsOfServer clients name judging carried tellings
+    server_part clients clear name tellings t told = (
+      λ is_client. part_clear IsOfServer point.Server server_point name tellings t told
+          (λ v is. (view_of point.Server t.judged.server t.transfer v told.of.server is, clear t.transfer v is_client)),
+      tt,
     )
 
   -- what is found between the ends is by none, unless it is judged there by a rollover
@@ -180,6 +216,25 @@ module _ (judging : Judging) (carried : List Carried) where
         )),
     between_clear plain clients clear name older rest,
   )
+
+  pub between_part : ((rollover : Rollover) → judging ≡ BetweenBy rollover → ⊥) → (clients : List Endpoint) → ((x : Transfer) (v : Viewed) → Contains clients x.client → IsServerKnown x carried v → IsClear point.Between x v)
+      → (name : List ℕ) (tellings : List Telling) → PartAccusesNobodyBetween clients name judging carried tellings
+  between_part plain clients clear name tellings t told = (
+    λ is_client apart known. part_clear IsBetween point.Between between_point name tellings t told
+        (λ v is. (
+          by_none plain t.transfer t.judged v told.of apart is,
+          clear t.transfer v is_client (on_some (IsServerKnown t.transfer carried) t.judged.between v known is),
+        )),
+    tt,
+  )
+
+-- what was told before a fault is of the datagrams by then
+pub are_of_part : {W : Type 0} (contents : W → Option (List ℕ)) (name : List ℕ) (judging : Judging) (named : List ℕ) (file : Option (List ℕ)) (end : Option Part) (all : Part) (ts : List Telling)
+    → IfSome end (IsEndOf file all) → AreTold name judging named end all ts → AreOf name judging named all.carried ts
+are_of_part contents name judging named file None all ts ended told =
+    are_of name judging named all all all ts refl (record { next_frames = []; next_carried = []; frames = refl; datagrams = refl }) (told_by_end contents name judging named (Some all) all ts told)
+are_of_part contents name judging named file (Some last) all ts ended told =
+    are_of name judging named last all all ts (ap (λ (p : Part). p.carried) ended.3) (record { next_frames = []; next_carried = []; frames = refl; datagrams = refl }) told
 
 -- what was lost makes none accuse
 pub still_none : (dropped : ℕ) (row last : VerdictRow) → IsRowWith dropped row last → row.charge.accused ≡ None → last.charge.accused ≡ None

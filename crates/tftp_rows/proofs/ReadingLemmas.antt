@@ -2,6 +2,7 @@
 use Rattle.std.proofs.Common.{◌≡◌, ◌⊎◌, ◌∷◌, ◌≤◌, ◌+◌, ◌-◌, ◌^◌, [], ℕ, Bool, true, false, List, length, arith, Option, Some, None, IsSome, Result, Ok, Err, OnErr, OnOk, inl, inr, refl, sym, subst, ◌∙◌}
 use Rattle.std.proofs.lemmas.Bool.{false≢true}
 use Rattle.std.specs.Io.KnownBytes.{Consumes, IsAtEnd}
+use Rattle.net_pcap.specs.{BeginsAsClassic}
 use Rattle.net_streams.specs.{Standing}
 use Rattle.net_udp.specs.Recording.{RecordingState, StandsFor, Step, standing_of}
 use Rattle.audit_flows.specs.Lines.{Placed}
@@ -151,8 +152,9 @@ module _ {W : Type 0} (contents : W → Option (List ℕ)) (lose : Bool) where
       → (standing_of recording ≡ Standing.Over → IsAtEnd left) → HasEnded recording before.notes → JudgesAs before after → after.notes.fault ≡ before.notes.fault
       → ((out : List ℕ) (history : List Step) (carried : List Carried) (s : Noticed) → IsSessionAfter before named out history carried s → IsSessionClosed after recording named out history carried s)
       → ((history : List Step) → (bytes : List ℕ) × Consumes file left bytes × StandsFor recording bytes history × Q bytes → lose ≡ false → lost_in recording ≡ 0)
+      → ((bytes : List ℕ) → Q bytes → lose ≡ false → BeginsAsClassic bytes)
       → IsReadThrough contents begun now file after named
-  closed_then begun now file left recording before after named is at_end ended judges fault closes lossless = record {
+  closed_then begun now file left recording before after named is at_end ended judges fault closes lossless classic = record {
     recording = recording;
     history = is.0;
     carried = is.1;
@@ -163,6 +165,7 @@ module _ {W : Type 0} (contents : W → Option (List ℕ)) (lose : Bool) where
     closed = closes (numbers_of is.3) is.0 is.1 is.2 is.4.session_is;
     may_lose = lose;
     lossless = lossless is.0 is.4.read;
+    classic = λ none. (is.4.read.0, left, is.4.read.1, classic is.4.read.0 is.4.read.3 none);
     has_told = subst (λ (k : Judging). HasTold contents begun now lose k named (so_far is.0 is.1 is.2) is.3) (sym judges) is.4.has_told;
   }
 
@@ -174,29 +177,31 @@ module _ {W : Type 0} (contents : W → Option (List ℕ)) (lose : Bool) where
   -- what was read before was told as it should be
   pub stops_there : {Q : List ℕ → Type 0} (begun now : Teller W) (file left : Option (List ℕ)) (recording : RecordingState) (session : Session) (judging : Judging) (named : List ℕ)
       → IsReadOn contents begun now lose (λ history. (bytes : List ℕ) × Consumes file left bytes × StandsFor recording bytes history × Q bytes) session named → session.audit.judge.judging ≡ judging
-      → IsReadInPart contents begun now file judging named
-  stops_there begun now file left recording session judging named is same = record {
+      → ((bytes : List ℕ) → Q bytes → lose ≡ false → BeginsAsClassic bytes) → IsReadInPart contents begun now file judging named
+  stops_there begun now file left recording session judging named is same classic = record {
     history = is.0;
     carried = is.1;
     noticed = is.2;
     tellings = is.3;
     read = inr (recording, is.4.read.0, left, is.4.read.1, is.4.read.2);
     came = is.4.session_is.noticed;
+    may_lose = lose;
+    classic = λ none. (is.4.read.0, left, is.4.read.1, classic is.4.read.0 is.4.read.3 none);
     has_told = told_so_far contents lose begun now judging named (so_far is.0 is.1 is.2) is.3
         (judged_as begun now session.audit.judge.judging judging named (so_far is.0 is.1 is.2) is.3 same is.4.has_told);
   }
 
-  part_told : (begun mid now : Teller W) (judging : Judging) (named : List ℕ) (all : Part) (ts : List Telling) → HasTold contents begun mid lose judging named all ts
-      → (now ≡ mid) ⊎ TellsNextPart contents mid now judging named (numbers_of ts) all.carried → HasToldPart contents begun now judging named all ts
-  part_told begun mid now judging named all ts h (inl same) = subst (λ (t : Teller W). HasToldPart contents begun t judging named all ts) (sym same) (told_so_far contents lose begun mid judging named all ts h)
-  part_told begun mid now judging named all ts h (inr step) = told_part contents lose begun mid now judging named all ts h step
+  part_told : (begun mid now : Teller W) (judging : Judging) (named : List ℕ) (all : Part) (ts : List Telling) → HasToldSo contents lose begun judging named all mid ts
+      → (now ≡ mid) ⊎ TellsNextPart contents mid now judging named (numbers_of ts) all.carried → HasToldPart contents begun now lose judging named all ts
+  part_told begun mid now judging named all ts so (inl same) = subst (λ (t : Teller W). HasToldPart contents begun t lose judging named all ts) (sym same) (told_so_far contents lose begun mid judging named all ts so.0)
+  part_told begun mid now judging named all ts so (inr step) = told_part contents lose begun mid now judging named all ts so.0 so.1 step
 
   -- what is over is told, and the last one in part
   pub stops_telling : {Q : List ℕ → Type 0} (begun old new : Teller W) (yet : Bool) (file left : Option (List ℕ)) (recording : RecordingState) (before : Session) (judging : Judging) (named : List ℕ) (history : List Step) (carried : List Carried) (s : Noticed) (ts : List Telling)
       → IsReadAndTold contents begun old lose (λ frames. (bytes : List ℕ) × Consumes file left bytes × StandsFor recording bytes frames × Q bytes) before named history carried s ts → before.audit.judge.judging ≡ judging → yet ≡ lose
       → TellsTurnsPart contents (λ b. IsOldestOver b named carried s × JudgesAs before b) (record old { may_lose = yet }) new before.audit.judge.judging named (numbers_of ts) history carried s
-      → IsReadInPart contents begun new file judging named
-  stops_telling begun old new yet file left recording before judging named history carried s ts is same calm turns =
+      → ((bytes : List ℕ) → Q bytes → lose ≡ false → BeginsAsClassic bytes) → IsReadInPart contents begun new file judging named
+  stops_telling begun old new yet file left recording before judging named history carried s ts is same calm turns classic =
       let here = before.audit.judge.judging in
       let more = told_in_turn contents (λ b. IsOldestOver b named carried s × JudgesAs before b) named history carried s
       (HasToldSo contents lose begun here named (so_far history carried s))
@@ -209,16 +214,18 @@ module _ {W : Type 0} (contents : W → Option (List ℕ)) (lose : Bool) where
         tellings = more.0;
         read = inr (recording, is.read.0, left, is.read.1, is.read.2);
         came = is.session_is.noticed;
-        has_told = subst (λ (k : Judging). HasToldPart contents begun new k named (so_far history carried s) more.0) same
-            (part_told begun turns.mid new here named (so_far history carried s) more.0 more.1.0
+        may_lose = lose;
+        classic = λ none. (is.read.0, left, is.read.1, classic is.read.0 is.read.3 none);
+        has_told = subst (λ (k : Judging). HasToldPart contents begun new lose k named (so_far history carried s) more.0) same
+            (part_told begun turns.mid new here named (so_far history carried s) more.0 more.1
             (subst (λ out. (new ≡ turns.mid) ⊎ TellsNextPart contents turns.mid new here named out carried) more.2 turns.part));
       }
 
   -- none waits, and the next transfer was told in part, or not
   all_told : (begun mid now : Teller W) (dropped : ℕ) (judging : Judging) (named : List ℕ) (end : Option Part) (all : Part) (ts : List Telling) → HasToldAll contents begun mid lose dropped judging named end all ts
-      → (now ≡ mid) ⊎ TellsNextPart contents mid now judging named (numbers_of ts) all.carried → HasToldInPart contents begun now dropped judging named end all ts
+      → (now ≡ mid) ⊎ TellsNextPart contents mid now judging named (numbers_of ts) all.carried → HasToldInPart contents begun now lose dropped judging named end all ts
   all_told begun mid now dropped judging named end all ts h (inl same) =
-      subst (λ (t : Teller W). HasToldInPart contents begun t dropped judging named end all ts) (sym same) (all_so_far contents lose begun mid dropped judging named end all ts h)
+      subst (λ (t : Teller W). HasToldInPart contents begun t lose dropped judging named end all ts) (sym same) (all_so_far contents lose begun mid dropped judging named end all ts h)
   all_told begun mid now dropped judging named end all ts h (inr step) = all_part_next contents lose begun mid now dropped judging named end all ts h step
 
 -- ---- the whole
@@ -272,7 +279,9 @@ module _ {W : Type 0} (contents : W → Option (List ℕ)) where
     tellings = [];
     read = inl refl;
     came = (refl, refl);
-    has_told = told_so_far contents false begun begun judging named (so_far [] [] nothing_noticed) [] (nothing_told contents false begun judging named none zero);
+    may_lose = true;
+    classic = λ sure. absurd (false≢true (sym sure));
+    has_told = told_so_far contents true begun begun judging named (so_far [] [] nothing_noticed) [] (nothing_told contents true begun judging named none zero);
   }
 
   -- a recording that was read through was read
@@ -285,6 +294,8 @@ module _ {W : Type 0} (contents : W → Option (List ℕ)) where
     tellings = is.tellings;
     read = inr (is.recording, is.read.bytes, is.read.left, is.read.had, is.read.frames);
     came = is.closed.noticed;
+    may_lose = is.may_lose;
+    classic = is.classic;
     has_told = told_so_far contents is.may_lose begun now judging named (so_far is.history is.carried is.noticed) is.tellings
         (judged_as contents is.may_lose begun now session.audit.judge.judging judging named (so_far is.history is.carried is.noticed) is.tellings same is.has_told);
   }
@@ -307,7 +318,9 @@ module _ {W : Type 0} (contents : W → Option (List ℕ)) where
     read = is.read;
     came = is.came;
     ended = tt;
-    told = held_in_part contents begun mid now dropped judging named (so_far is.history is.carried is.noticed) is.tellings is.has_told prints none;
+    may_lose = is.may_lose;
+    classic = is.classic;
+    told = held_in_part contents is.may_lose begun mid now dropped judging named (so_far is.history is.carried is.noticed) is.tellings is.has_told prints none;
     in_order = are_in_order begun.file.now judging named None (so_far is.history is.carried is.noticed) is.tellings is.has_told.told;
   }
 
@@ -339,7 +352,9 @@ module _ {W : Type 0} (contents : W → Option (List ℕ)) where
         read = inr (is.recording, is.read.bytes, is.read.left, is.read.had, is.read.frames);
         came = is.closed.noticed;
         ended = (is.recording, is.read, not_open is.recording session.notes is.ended, refl);
-        told = subst (λ (k : Judging). HasToldInPart contents begun now lost k named (Some last) all more.0) same
+        may_lose = is.may_lose;
+        classic = is.classic;
+        told = subst (λ (k : Judging). HasToldInPart contents begun now is.may_lose lost k named (Some last) all more.0) same
             (all_told contents is.may_lose begun turns.mid now lost here named (Some last) all more.0 more.1
             (subst (λ out. (now ≡ turns.mid) ⊎ TellsNextPart contents turns.mid now here named out is.carried) more.2 turns.part));
         in_order = are_in_order begun.file.now here named (Some last) all more.0 more.1.told;

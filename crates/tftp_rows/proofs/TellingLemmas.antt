@@ -38,6 +38,10 @@ pub all_appended : {X : Type 0} (P : X → Type 0) (xs ys : List X) → AllByRec
 all_appended P [] ys one other = other
 all_appended P (x ∷ xs) ys one other = (one.0, all_appended P xs ys one.1 other)
 
+pub all_first : {X : Type 0} (P : X → Type 0) (xs ys : List X) → AllByRecursion P (xs ++ ys) → AllByRecursion P xs
+all_first P [] ys all = tt
+all_first P (x ∷ xs) ys all = (all.0, all_first P xs ys all.1)
+
 -- what is not there is none
 pub no_frame : (o : Option ℕ) (waits : Bool) → (IsSome o → waits ≡ true) → waits ≡ false → o ≡ None
 no_frame None waits so off = refl

@@ -1,5 +1,5 @@
 -- What is told of a recording, transfer by transfer.
-use Rattle.std.proofs.Common.{◌≡◌, ◌⊎◌, ◌∷◌, ◌++◌, ◌+◌, ◌-◌, ◌^◌, suc, [], ℕ, Bool, length, max, min, true, false, List, Option, Some, None, inl, inr, refl, sym, ap, ◌∙◌, subst, append_assoc, append-nil, arith}
+use Rattle.std.proofs.Common.{◌≡◌, ◌⊎◌, ◌∷◌, ◌++◌, ◌+◌, ◌-◌, ◌^◌, suc, [], ℕ, Bool, length, max, min, false, List, Option, Some, None, inl, inr, refl, sym, ap, ◌∙◌, subst, append_assoc, append-nil, arith}
 use Rattle.net_udp.specs.Recording.{Step}
 use Rattle.audit_flows.specs.Lines.{same_address}
 use Rattle.audit_recording.specs.Blame.Frames.{Carried}
@@ -13,7 +13,7 @@ use Rattle.audit_recording.specs.declared.session.session.Session.{Session}
 use Rattle.audit_rows.specs.{IsJudgedOf}
 use Rattle.audit_rows.specs.declared.judged.Judged.{Judged}
 use Rattle.tftp_rows.specs.Printing.{PrintsPart, verdict_lines}
-use Rattle.tftp_rows.specs.Telling.{AreRowsAt, AreRowsWith, PrintsAllWith, PrintsPartWith, TellsInTurn, TellsNext, TellsNextPart, places_of}
+use Rattle.tftp_rows.specs.Telling.{AreRowsAt, AreRowsWith, PrintsAllWith, PrintsPartWith, RefuseNothing, TellsInTurn, TellsNext, TellsNextPart, places_of}
 use Rattle.tftp_rows.specs.Whole.{AreMissing, AreTold, HasTold, HasToldAll, HasToldInPart, HasToldPart, IsDue, IsPartOf, IsToldNext, IsToldPart, Part, Telling, all_rows, counted, numbers_of, so_far, worst_of}
 use Rattle.tftp_rows.specs.declared.printing.RowPrinter.{RowPrinter}
 use Rattle.tftp_rows.specs.declared.row.VerdictRow.{VerdictRow}
@@ -21,7 +21,7 @@ use Rattle.tftp_rows.specs.declared.teller.Teller.{Teller}
 use Rattle.tftp_rows.proofs.DueLemmas.{asked_in, asked_then, over_then}
 use Rattle.tftp_rows.proofs.OrderLemmas.{told_longer}
 use Rattle.tftp_rows.proofs.PrintingLemmas.{first_of_none, prints_all_so, prints_both, prints_nothing, prints_part, prints_part_only}
-use Rattle.tftp_rows.proofs.TellingLemmas.{all_appended, all_both, all_part, all_so, with_both}
+use Rattle.tftp_rows.proofs.TellingLemmas.{all_appended, all_both, all_first, all_part, all_so, with_both}
 
 raised : (a b c w x : ℕ) → c ≡ max b x → b ≡ max a w → c ≡ max a (max w x)
 raised a b c w x p q = omega arith
@@ -87,9 +87,9 @@ module _ {W : Type 0} (contents : W → Option (List ℕ)) where
   }
 
   -- what waited was printed then, or in part
-  pub held_in_part : (begun t u : Teller W) (dropped : ℕ) (judging : Judging) (named : List ℕ) (all : Part) (ts : List Telling) → HasToldPart contents begun t judging named all ts
-      → PrintsPartWith contents dropped t.printer u.printer t.held.items → u.held.items ≡ [] → HasToldInPart contents begun u dropped judging named None all ts
-  held_in_part begun t u dropped judging named all ts h p none = elim h.prints [
+  pub held_in_part : (lose : Bool) (begun t u : Teller W) (dropped : ℕ) (judging : Judging) (named : List ℕ) (all : Part) (ts : List Telling) → HasToldPart contents begun t lose judging named all ts
+      → PrintsPartWith contents dropped t.printer u.printer t.held.items → u.held.items ≡ [] → HasToldInPart contents begun u lose dropped judging named None all ts
+  held_in_part lose begun t u dropped judging named all ts h p none = elim h.prints [
     | inl whole ↦ record {
       told = h.told;
       next = h.next;
@@ -104,6 +104,7 @@ module _ {W : Type 0} (contents : W → Option (List ℕ)) where
       are_last = p.last;
       prints = prints_part contents verdict_lines begun.printer t.printer u.printer whole.printed p.printed whole.prints p.prints;
       none_waits = none;
+      calm = h.calm;
     }
     | inr cut ↦
         (let part = cut.0 in
@@ -124,6 +125,7 @@ module _ {W : Type 0} (contents : W → Option (List ℕ)) where
           prints = subst (PrintsPart contents verdict_lines begun.printer u.printer) (sym (append-nil part.printed))
               (prints_part_only contents verdict_lines begun.printer t.printer u.printer part.printed part.prints (subst (PrintsPart contents verdict_lines t.printer u.printer) no_rows p.prints));
           none_waits = none;
+          calm = λ yet. all_first (λ (row : VerdictRow). row.frame ≡ None) part.due part.others (subst RefuseNothing part.are (h.calm yet));
         })
   ]
 
@@ -132,7 +134,7 @@ module _ {W : Type 0} (contents : W → Option (List ℕ)) where
   as_part dropped s t rows P (inr part) = part.0
 
   -- what was over is so once the recording has ended
-  told_by_end : (name : List ℕ) (judging : Judging) (named : List ℕ) (end : Option Part) (all : Part) (ts : List Telling) → AreTold name judging named None all ts → AreTold name judging named end all ts
+  pub told_by_end : (name : List ℕ) (judging : Judging) (named : List ℕ) (end : Option Part) (all : Part) (ts : List Telling) → AreTold name judging named None all ts → AreTold name judging named end all ts
   told_by_end name judging named end all [] told = tt
   told_by_end name judging named end all (t ∷ older) told = (
     told.0,
@@ -277,7 +279,7 @@ module _ {W : Type 0} (contents : W → Option (List ℕ)) where
     }
 
     pub told_so_far : (begun now : Teller W) (judging : Judging) (named : List ℕ) (all : Part) (ts : List Telling) → HasTold contents begun now lose judging named all ts
-        → HasToldPart contents begun now judging named all ts
+        → HasToldPart contents begun now lose judging named all ts
     told_so_far begun now judging named all ts h = record {
       told = h.told;
       next = [];
@@ -286,12 +288,13 @@ module _ {W : Type 0} (contents : W → Option (List ℕ)) where
       left = [];
       rows = append-nil (all_rows ts) ∙ (h.rows ∙ ap (λ l. h.printed ++ l) (sym (append-nil now.held.items)));
       prints = inl h.prints;
+      calm = h.calm;
     }
 
     -- the next transfer was told in part
     pub told_part : (begun t u : Teller W) (judging : Judging) (named : List ℕ) (all : Part) (ts : List Telling) → HasTold contents begun t lose judging named all ts
-        → TellsNextPart contents t u judging named (numbers_of ts) all.carried → HasToldPart contents begun u judging named all ts
-    told_part begun t u judging named all ts h step =
+        → t.may_lose ≡ lose → TellsNextPart contents t u judging named (numbers_of ts) all.carried → HasToldPart contents begun u lose judging named all ts
+    told_part begun t u judging named all ts h same step =
         let rows = step.rows.rows in
         let tells = step.rows.tells in
         record {
@@ -311,11 +314,12 @@ module _ {W : Type 0} (contents : W → Option (List ℕ)) where
               part.1,
             )
           ];
+          calm = λ yet. all_appended (λ (row : VerdictRow). row.frame ≡ None) h.printed tells.due (h.calm yet) (tells.calm (same ∙ yet));
         }
 
     -- none waits, and no more was told
     pub all_so_far : (begun t : Teller W) (dropped : ℕ) (judging : Judging) (named : List ℕ) (end : Option Part) (all : Part) (ts : List Telling) → HasToldAll contents begun t lose dropped judging named end all ts
-        → HasToldInPart contents begun t dropped judging named end all ts
+        → HasToldInPart contents begun t lose dropped judging named end all ts
     all_so_far begun t dropped judging named end all ts h = record {
       told = h.told;
       next = [];
@@ -330,11 +334,12 @@ module _ {W : Type 0} (contents : W → Option (List ℕ)) where
       are_last = h.are_last;
       prints = prints_all_so contents verdict_lines begun.printer t.printer (h.first ++ h.last) h.prints;
       none_waits = h.none_waits;
+      calm = h.calm;
     }
 
     -- none waits, and the next transfer was told in part
     pub all_part_next : (begun t u : Teller W) (dropped : ℕ) (judging : Judging) (named : List ℕ) (end : Option Part) (all : Part) (ts : List Telling) → HasToldAll contents begun t lose dropped judging named end all ts
-        → TellsNextPart contents t u judging named (numbers_of ts) all.carried → HasToldInPart contents begun u dropped judging named end all ts
+        → TellsNextPart contents t u judging named (numbers_of ts) all.carried → HasToldInPart contents begun u lose dropped judging named end all ts
     all_part_next begun t u dropped judging named end all ts h step =
         let rows = step.rows.rows in
         let tells = step.rows.tells in
@@ -358,4 +363,5 @@ module _ {W : Type 0} (contents : W → Option (List ℕ)) where
           prints = subst (PrintsPart contents verdict_lines begun.printer u.printer) (append_assoc h.first h.last part.printed)
               (prints_part contents verdict_lines begun.printer t.printer u.printer (h.first ++ h.last) part.printed h.prints part.prints);
           none_waits = none;
+          calm = h.calm;
         }

@@ -1,13 +1,14 @@
 -- Which rows of a recording accuse nobody. Tellings have the newest first.
-use Rattle.std.specs.Prelude.{◌≡◌, List, [], ◌∷◌, Contains, IfSome, None}
+use Rattle.std.specs.Prelude.{◌≡◌, ℕ, List, [], ◌∷◌, Contains, IfSome, None}
 use Rattle.law_tap.specs.{AreApart}
 use Rattle.audit_flows.specs.{Endpoint}
 use Rattle.audit_recording.specs.Between.{sides_of}
 use Rattle.audit_recording.specs.Blame.Frames.{Carried, whole_of}
+use Rattle.audit_recording.specs.declared.judges.judging.Judging.{Judging}
 use Rattle.audit_recording.specs.declared.rows.row.Place.{Place}
 use Rattle.audit_recording.specs.declared.rows.row.Place.TheVariants.{Client, Server, Both, Between}
 use Rattle.audit_cleared.specs.Accusing.{IsServerKnown}
-use Rattle.tftp_rows.specs.Whole.{Telling}
+use Rattle.tftp_rows.specs.Whole.{IsToldPart, Telling}
 use Rattle.tftp_rows.specs.declared.row.VerdictRow.{VerdictRow}
 
 -- the row tells what was seen at the client, alone or as at its server
@@ -40,3 +41,10 @@ AccuseNobodyBetween clients carried (t ∷ older) =
     (Contains clients t.transfer.client → AreApart (sides_of t.transfer (whole_of [] carried)) → IfSome t.judged.between (IsServerKnown t.transfer carried)
     → (row : VerdictRow) → Contains t.rows row → IsBetween row.place → row.charge.accused ≡ None)
     × AccuseNobodyBetween clients carried older
+
+-- The same of a transfer that was told in part, behind these.
+abbrev pub PartAccusesNobody : (Place → Type 0) → List Endpoint → List ℕ → Judging → List Carried → List Telling → Type 0
+PartAccusesNobody IsThere clients name judging carried tellings = (t : Telling) → IsToldPart name judging [] carried t tellings → AccuseNobody IsThere clients (t ∷ [])
+
+abbrev pub PartAccusesNobodyBetween : List Endpoint → List ℕ → Judging → List Carried → List Telling → Type 0
+PartAccusesNobodyBetween clients name judging carried tellings = (t : Telling) → IsToldPart name judging [] carried t tellings → AccuseNobodyBetween clients carried (t ∷ [])

@@ -10,7 +10,7 @@ use Rattle.audit_recording.specs.Blame.Frames.{Carried, whole_of}
 use Rattle.audit_recording.specs.Judges.{opened}
 use Rattle.audit_recording.specs.Session.Lines.{lines_told}
 use Rattle.audit_recording.specs.Session.Noted.{AreNotesOf, Noticed, frames_in, giving_up, told_in}
-use Rattle.audit_recording.specs.Session.Opened.{HasEnded}
+use Rattle.audit_recording.specs.Session.Opened.{HasEnded, IsReadFaultOf}
 use Rattle.audit_recording.specs.Session.Recording.{IsNoticedOf}
 use Rattle.audit_recording.specs.Session.Texts.{IsTextFault, IsWhole, opened_count, ordinal, text_of}
 use Rattle.audit_recording.specs.declared.session.fault.TextFault.TheVariants.{NotWhole}
@@ -116,7 +116,7 @@ module _ {W E : Type 0} (contents : W → Option (List ℕ)) (errors : E → Opt
     -- What a fault leaves of it. Nothing was written, unless it is that which has failed.
     abbrev pub IsTextStopped : TellFault → Type 0
     IsTextStopped (TellFault.Alloc error) = IsUnwritten contents writer wrote × (IsSilent errors remarks told ⊎ IsNoted errors remarks told of file SaysPart)
-    IsTextStopped (TellFault.Read fault) = IsUnwritten contents writer wrote × IsSilent errors remarks told
+    IsTextStopped (TellFault.Read fault) = IsUnwritten contents writer wrote × IsSilent errors remarks told × IsReadFaultOf file fault
     IsTextStopped (TellFault.Remark error) = IsUnwritten contents writer wrote × IsNoted errors remarks told of file SaysPart × (told.errors.1 ≡ true)
     IsTextStopped (TellFault.Text fault) =
         IsUnwritten contents writer wrote
@@ -190,7 +190,7 @@ module _ {W E : Type 0} (contents : W → Option (List ℕ)) (errors : E → Opt
 
     abbrev pub AreTextsStopped : TellFault → Type 0
     AreTextsStopped (TellFault.Alloc error) = (IsUnwritten contents writer wrote × IsSilent errors remarks told) ⊎ AreStoppedAfter (TellFault.Alloc error)
-    AreTextsStopped (TellFault.Read fault) = IsUnwritten contents writer wrote × IsSilent errors remarks told
+    AreTextsStopped (TellFault.Read fault) = IsUnwritten contents writer wrote × IsSilent errors remarks told × IsReadFaultOf file fault
     AreTextsStopped fault = AreStoppedAfter fault
 
     -- what a call does, however it ends

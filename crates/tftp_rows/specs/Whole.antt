@@ -3,6 +3,7 @@
 use Rattle.std.specs.Prelude.{◌≡◌, ◌⊎◌, ◌<◌, ◌≤◌, ◌^◌, ◌-◌, ◌++◌, ℕ, Bool, true, false, List, [], ◌∷◌, length, max, min, IfSome, IsSome, Option, Some, None}
 use Rattle.std.specs.Io.KnownBytes.{Consumes, IsAtEnd}
 use Rattle.std.specs.List.{AllByRecursion}
+use Rattle.net_pcap.specs.{BeginsAsClassic}
 use Rattle.net_streams.specs.{Standing}
 use Rattle.net_udp.specs.Recording.{RecordingState, StandsFor, Step, standing_of}
 use Rattle.audit_flows.specs.{Transfer}
@@ -160,6 +161,10 @@ abbrev pub WereRead : Option (List ℕ) → List Step → Type 0
 WereRead file history =
     (history ≡ []) ⊎ ((recording : RecordingState) × (bytes : List ℕ) × (left : Option (List ℕ)) × Consumes file left bytes × StandsFor recording bytes history)
 
+-- it begins as a classic recording does, which tells of no lost packets
+abbrev pub IsClassic : Option (List ℕ) → Type 0
+IsClassic file = (bytes : List ℕ) × (left : Option (List ℕ)) × Consumes file left bytes × BeginsAsClassic bytes
+
 -- ---- what was printed of them
 
 module _ {W : Type 0} (contents : W → Option (List ℕ)) where
@@ -197,8 +202,9 @@ module _ {W : Type 0} (contents : W → Option (List ℕ)) where
     pub calm : lose ≡ true → RefuseNothing early
 
   -- A call has failed: the first rows of these transfers, and of one that was told in part, were printed, each once and in order, and nothing else:
-  -- whole, and then those that wait come next; or in part, and none waits.
-  pub record HasToldPart (begun now : Teller W) (judging : Judging) (named : List ℕ) (all : Part) (tellings : List Telling) : Type 0 where
+  -- whole, and then those that wait come next; or in part, and none waits. While the recorder may yet tell that it lost packets, none was
+  -- printed that refuses a datagram.
+  pub record HasToldPart (begun now : Teller W) (lose : Bool) (judging : Judging) (named : List ℕ) (all : Part) (tellings : List Telling) : Type 0 where
     pub told : AreTold begun.file.now judging named None all tellings
     pub next : List VerdictRow
     pub are_next : AreRowsInPart begun.file.now judging named all.carried tellings next
@@ -206,9 +212,10 @@ module _ {W : Type 0} (contents : W → Option (List ℕ)) where
     pub left : List VerdictRow
     pub rows : all_rows tellings ++ next ≡ printed ++ (now.held.items ++ left)
     pub prints : PrintsAllWith contents begun.dropped begun.printer now.printer printed ⊎ (PrintsPartWith contents begun.dropped begun.printer now.printer printed × (now.held.items ≡ []))
+    pub calm : lose ≡ true → RefuseNothing printed
 
   -- The same where none waits: what was held back was printed as it is where the recorder lost so many packets.
-  pub record HasToldInPart (begun now : Teller W) (dropped : ℕ) (judging : Judging) (named : List ℕ) (end : Option Part) (all : Part) (tellings : List Telling) : Type 0 where
+  pub record HasToldInPart (begun now : Teller W) (lose : Bool) (dropped : ℕ) (judging : Judging) (named : List ℕ) (end : Option Part) (all : Part) (tellings : List Telling) : Type 0 where
     pub told : AreTold begun.file.now judging named end all tellings
     pub next : List VerdictRow
     pub are_next : AreRowsInPart begun.file.now judging named all.carried tellings next
@@ -222,6 +229,7 @@ module _ {W : Type 0} (contents : W → Option (List ℕ)) where
     pub are_last : AreRowsWith dropped late last
     pub prints : PrintsPart contents verdict_lines begun.printer now.printer (first ++ last)
     pub none_waits : now.held.items ≡ []
+    pub calm : lose ≡ true → RefuseNothing early
 
   -- ---- while it is read
 
@@ -250,6 +258,7 @@ module _ {W : Type 0} (contents : W → Option (List ℕ)) where
     pub closed : IsSessionClosed session recording named (numbers_of tellings) history carried noticed
     pub may_lose : Bool
     pub lossless : may_lose ≡ false → lost_in recording ≡ 0
+    pub classic : may_lose ≡ false → IsClassic file
     pub has_told : HasTold begun now may_lose session.audit.judge.judging named (so_far history carried noticed) tellings
 
   -- a call has failed: these frames were read before, and of their transfers these were told, the last one in part
@@ -260,7 +269,9 @@ module _ {W : Type 0} (contents : W → Option (List ℕ)) where
     pub tellings : List Telling
     pub read : WereRead file history
     pub came : IsNoticedOf named history carried noticed
-    pub has_told : HasToldPart begun now judging named (so_far history carried noticed) tellings
+    pub may_lose : Bool
+    pub classic : may_lose ≡ false → IsClassic file
+    pub has_told : HasToldPart begun now may_lose judging named (so_far history carried noticed) tellings
 
   -- ---- all of it
 
@@ -285,7 +296,8 @@ module _ {W : Type 0} (contents : W → Option (List ℕ)) where
 
   -- What a fault leaves of it: of the datagrams that were read before, the first rows of transfers, in the order of the requests, were printed, the
   -- last one in part, and nothing else; none waits, and how many packets the recorder had lost by then is any number. Where the fault came
-  -- behind the recording's end, the last ones may have been told by that.
+  -- behind the recording's end, the last ones may have been told by that. Rows that refuse a datagram were printed as if none were lost only
+  -- where the recording can't tell that any was.
   pub record IsRecordingToldInPart (begun now : Teller W) (file : Option (List ℕ)) (judging : Judging) (named : List ℕ) : Type 0 where
     pub history : List Step
     pub carried : List Carried
@@ -296,5 +308,7 @@ module _ {W : Type 0} (contents : W → Option (List ℕ)) where
     pub read : WereRead file history
     pub came : IsNoticedOf named history carried noticed
     pub ended : IfSome end (IsEndOf file (so_far history carried noticed))
-    pub told : HasToldInPart begun now dropped judging named end (so_far history carried noticed) tellings
+    pub may_lose : Bool
+    pub classic : may_lose ≡ false → IsClassic file
+    pub told : HasToldInPart begun now may_lose dropped judging named end (so_far history carried noticed) tellings
     pub in_order : AreInOrder tellings

@@ -11,9 +11,9 @@ ghost use Rattle.audit_recording.specs.Judges.Points.{rollover_of};
 ghost use Rattle.audit_recording.specs.declared.judges.judging.Judging.{Judging as JudgingKind};
 ghost use Rattle.audit_recording.specs.declared.session.notes.Notes.{Notes as NotesKind};
 ghost use Rattle.audit_cleared.specs.{HasAddresses};
-ghost use Rattle.tftp_rows.specs.Accusing.{AccuseNobody, AccuseNobodyBetween, IsOfClient, IsOfServer};
+ghost use Rattle.tftp_rows.specs.Accusing.{AccuseNobody, AccuseNobodyBetween, IsOfClient, IsOfServer, PartAccusesNobody, PartAccusesNobodyBetween};
 ghost use Rattle.tftp_rows.specs.Telling.{IsRowWith};
-ghost use Rattle.tftp_rows.specs.Whole.{IsRecordingTold};
+ghost use Rattle.tftp_rows.specs.Whole.{IsRecordingTold, IsRecordingToldInPart};
 ghost use Rattle.tftp_rows.specs.declared.row.VerdictRow.{VerdictRow as RowKind};
 ghost use Rattle.tftp_rows.specs.declared.teller.Teller.{Teller as TellerKind};
 
@@ -42,6 +42,31 @@ pub fn no_printed_row_accuses_where_ends_are_lawful<W: Write + Drop>()
         → ((rollover : Rollover) → judging ≢ JudgingKind.BetweenBy rollover)
         → AreInterleaved host_name clients (datagrams_of told.carried) → All HasAddresses (datagrams_of told.carried) → AccuseNobodyBetween clients told.carried told.tellings }
     ensures lost { (dropped : ℕ) (row last : RowKind) → IsRowWith dropped row last → row.charge.accused ≡ None → last.charge.accused ≡ None }
+{
+    no_row_accuses_where_a_client_is_lawful();
+    no_row_accuses_where_a_server_is_lawful();
+    no_row_accuses_between_where_a_client_is_lawful();
+}
+
+/// Nor does what it prints before a fault, of the transfers that were told by then and of the next one, which was told in part.
+pub fn nothing_printed_before_a_fault_accuses_where_ends_are_lawful<W: Write + Drop>()
+    ensures clients { (begun now : TellerKind W) (file : Option (List ℕ)) (judging : JudgingKind) (clients : List Endpoint)
+        → (told : IsRecordingToldInPart W.Write.contents begun now file judging [])
+        → rollover_of judging ≡ None → AreInterleaved host_name clients (datagrams_of told.carried)
+        → AccuseNobody IsOfClient clients told.tellings × PartAccusesNobody IsOfClient clients begun.file.now judging told.carried told.tellings }
+    ensures strayed { (begun now : TellerKind W) (file : Option (List ℕ)) (judging : JudgingKind) (clients : List Endpoint) (strays idle : Recorded → Bool)
+        → (told : IsRecordingToldInPart W.Write.contents begun now file judging [])
+        → rollover_of judging ≡ None → AreStrayed host_name strays idle clients (datagrams_of told.carried)
+        → AccuseNobody IsOfClient clients told.tellings × PartAccusesNobody IsOfClient clients begun.file.now judging told.carried told.tellings }
+    ensures servers { (begun now : TellerKind W) (file : Option (List ℕ)) (judging : JudgingKind) (host : Address) (clients : List Endpoint)
+        → (told : IsRecordingToldInPart W.Write.contents begun now file judging [])
+        → rollover_of judging ≡ None → AreServed (IsServedCapture host_name) host_name host clients (datagrams_of told.carried)
+        → AccuseNobody IsOfServer clients told.tellings × PartAccusesNobody IsOfServer clients begun.file.now judging told.carried told.tellings }
+    ensures between { (begun now : TellerKind W) (file : Option (List ℕ)) (judging : JudgingKind) (clients : List Endpoint)
+        → (told : IsRecordingToldInPart W.Write.contents begun now file judging [])
+        → ((rollover : Rollover) → judging ≢ JudgingKind.BetweenBy rollover)
+        → AreInterleaved host_name clients (datagrams_of told.carried) → All HasAddresses (datagrams_of told.carried)
+        → AccuseNobodyBetween clients told.carried told.tellings × PartAccusesNobodyBetween clients begun.file.now judging told.carried told.tellings }
 {
     no_row_accuses_where_a_client_is_lawful();
     no_row_accuses_where_a_server_is_lawful();

@@ -1,13 +1,14 @@
 -- A recording that is read frame by frame. Lists have the newest first.
 use Rattle.std.specs.Prelude.{◌≡◌, ◌⊎◌, [], ℕ, Bool, false, List, Option, Some}
 use Rattle.std.specs.Io.KnownBytes.{Consumes, IsAtEnd, prepend_known}
-use Rattle.net_pcap.specs.{BeginsAsClassic, PcapFault, lost_of}
+use Rattle.net_pcap.specs.{BeginsAsClassic, FailsToBegin, FaultKind, PcapFault, lost_of}
 use Rattle.net_streams.specs.{Standing}
 use Rattle.net_udp.specs.Recording.{RecordingState, StandsFor, Step, standing_of}
 use Rattle.audit_recording.specs.Blame.Frames.{Carried}
 use Rattle.audit_recording.specs.Session.Kept.{IsSessionAfter, IsSessionOf}
 use Rattle.audit_recording.specs.Session.Noted.{Noticed, frames_in, giving_up}
 use Rattle.audit_recording.specs.Session.Recording.{IsNoticedOf}
+use Rattle.audit_recording.specs.declared.session.fault.ReadFault.{ReadFault}
 use Rattle.audit_recording.specs.declared.session.notes.Notes.{Notes}
 use Rattle.audit_recording.specs.declared.session.opened.Opened.{Opened}
 use Rattle.audit_recording.specs.declared.session.session.Session.{Session}
@@ -43,6 +44,21 @@ pub record IsSessionClosed (session : Session) (recording : RecordingState) (nam
   pub kept : IsSessionOf session named out history carried (giving_up (frames_in recording.waiting) s)
   pub may_lose : session.notes.may_lose ≡ false
   pub dropped : session.notes.dropped ≡ lost_in recording
+
+-- ---- one that is not read
+
+-- The file fails to begin as a recording, for this reason: its first bytes tell it, whatever follows them.
+abbrev pub BeginsNot : Option (List ℕ) → FaultKind → Type 0
+BeginsNot file kind = (left : Option (List ℕ)) × (fault : PcapFault) × FailsToBegin file left fault × (fault.kind ≡ kind)
+
+-- That a file is no recording, or none that is read here, is said only where it fails to begin so. That memory was refused, or that there are
+-- too many datagrams, nothing shows.
+abbrev pub IsReadFaultOf : Option (List ℕ) → ReadFault → Type 0
+IsReadFaultOf file (ReadFault.NoRecording words) = BeginsNot file FaultKind.NotARecording
+IsReadFaultOf file (ReadFault.Format kind) = BeginsNot file kind
+IsReadFaultOf file ReadFault.Memory = Unit {0}
+IsReadFaultOf file ReadFault.TooMany = Unit {0}
+IsReadFaultOf file (ReadFault.Alloc error) = Unit {0}
 
 -- ---- one that is read whole
 

@@ -22,7 +22,18 @@ pub enum ReadFault {
     TooMany,
     /// Memory was refused for what is kept of it.
     #[error(transparent)]
-    Alloc(#[from(alloc)] AllocError),
+    Alloc(AllocError),
+}
+
+impl From<AllocError> for ReadFault {
+    ghost use Rattle.std.specs.Prelude.{◌≡◌};
+    ghost use Rattle.audit_recording.specs.declared.session.fault.ReadFault.{ReadFault};
+
+    ghost from_gives = { λ error fault. fault ≡ ReadFault.Alloc error };
+
+    fn from(error: AllocError) -> Self {
+        ReadFault::Alloc(error)
+    }
 }
 
 /// Why there is no text of a transfer.

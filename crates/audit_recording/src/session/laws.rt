@@ -3,7 +3,7 @@
 ghost use Rattle.std.specs.Prelude.{◌≡◌, ◌≤◌, ◌+◌, ◌++◌, ◌||◌, ◌∷◌, ℕ, List, [], None, Some, codes, false, length, true};
 ghost use Rattle.std.specs.Global.{Vec};
 ghost use Rattle.std.specs.List.{AllByRecursion};
-ghost use Rattle.net_pcap.specs.{Truncated};
+ghost use Rattle.net_pcap.specs.{BeginsAsOne, NotARecording, Truncated};
 ghost use Rattle.net_udp.specs.Fragments.{content_of};
 ghost use Rattle.net_udp.specs.Frames.{acknowledgement};
 ghost use Rattle.net_udp.specs.Recording.{IsDatagram, IsHistory, Step, begun_step, last_bytes, last_part, waiting, worked_content};
@@ -26,6 +26,7 @@ ghost use Rattle.audit_flows.specs.Lines.{silence};
 ghost use Rattle.audit_recording.specs.Session.Headed.{is_recording};
 ghost use Rattle.audit_recording.specs.Session.Lines.{behind_words, dropped_lines, fault_lines, left_out_lines, lines_of, pair_lines, ports_text};
 ghost use Rattle.audit_recording.specs.Session.Noted.{AreUpTo, Noticed, frames_in, giving_up, going_back, told_in};
+ghost use Rattle.audit_recording.specs.Session.Opened.{BeginsNot};
 ghost use Rattle.audit_recording.specs.Session.Over.{AreLater, IsPast};
 ghost use Rattle.audit_recording.specs.Session.Recording.{IsNoticedOf};
 ghost use Rattle.audit_recording.specs.Session.Told.{AreApart, AreEachOnce, AreEarlier, AreOfOneKind, AreOnce, IsLostAlone, nothing_told};
@@ -144,6 +145,17 @@ pub fn each_frame_is_told_once()
         → IsLostAlone (told_in (giving_up (frames_in (waiting history)) s)) }
     ensures lost_within { (named : List ℕ) (history : List Step) (carried : List Carried) (s : Noticed) → IsHistory history → IsNoticedOf named history carried s
         → AllByRecursion (λ n. (1 ≤ n) × (n ≤ length history)) (told_in (giving_up (frames_in (waiting history)) s)).lost }
+{}
+
+/// A file that begins as a recording is not said to be none.
+pub fn what_begins_as_a_recording_is_not_said_to_be_none()
+    ensures { (bytes : List ℕ) → BeginsAsOne bytes → BeginsNot (Some bytes) NotARecording → ⊥ }
+{}
+
+/// An empty file is no recording, and neither is a capture text.
+pub fn worked_unread()
+    ensures empty { BeginsNot (Some []) NotARecording }
+    ensures text { BeginsNot (Some (codes "tftp-capture 1\n")) NotARecording }
 {}
 
 /// Of four frames the first is a fragment that waits; in the second its client asks for a file, and opens a transfer; with the third the

@@ -1,13 +1,14 @@
 //! Recordings are read.
 
-ghost use Rattle.std.specs.Prelude.{◌≡◌, [], ℕ, List, IfOk, OnOk, Ok, Option, false, true};
+ghost use Rattle.std.specs.Prelude.{◌≡◌, [], ℕ, List, IfErr, IfOk, OnOk, Ok, Option, false, true};
 ghost use Rattle.std.specs.Io.KnownBytes.{IsAtEnd};
+ghost use Rattle.net_pcap.specs.{FailsToBegin, may_lose};
 ghost use Rattle.net_streams.specs.{Standing};
 ghost use Rattle.net_udp.specs.Recording.{Step, standing_of};
 ghost use Rattle.audit_recording.specs.Blame.Frames.{Carried};
 ghost use Rattle.audit_recording.specs.Session.Kept.{IsSessionAfter, ReadsOn};
 ghost use Rattle.audit_recording.specs.Session.Noted.{Noticed, nothing_noticed};
-ghost use Rattle.audit_recording.specs.Session.Opened.{HasEnded, HasRead, IsReadOn, IsReadWhole, IsSessionClosed, left_of, may_lose_in};
+ghost use Rattle.audit_recording.specs.Session.Opened.{HasEnded, HasRead, IsReadFaultOf, IsReadOn, IsReadWhole, IsSessionClosed, left_of, may_lose_in};
 
 use crate::session::fault::ReadFault;
 use crate::session::headed::{Headed, hint};
@@ -33,6 +34,8 @@ impl<R: Read + Drop> Opened<R> {
     pub fn begin(alloc: Global, reader: R) -> Result<Self, ReadFault>
         ensures begun { IfOk result (λ opened. HasRead R.remaining (R.remaining reader) opened []) }
         ensures open { IfOk result (λ opened. standing_of opened.recording ≡ Standing.Open) }
+        ensures may_lose { IfOk result (λ opened. may_lose_in opened ≡ may_lose opened.recording.frames.pieces.mode.layout) }
+        ensures why { IfErr result (IsReadFaultOf (R.remaining reader)) }
     {
         let mut reader = Latched::new(Headed::new(reader));
         match RecordingReader::begin(alloc, &mut reader) {
@@ -61,6 +64,7 @@ impl<R: Read + Drop> Opened<R> {
         ensures wanted { session.new.kept.wanted ≡ session.old.kept.wanted }
         ensures stays { may_lose_in self.new ≡ may_lose_in self.old }
         ensures may_lose { session.new.notes.may_lose ≡ may_lose_in self.new }
+        ensures why { (file : Option (List ℕ)) → IfErr result (IsReadFaultOf file) }
     {
         let goes_on = session.next(
             alloc,
@@ -90,7 +94,9 @@ impl<R: Read + Drop> Opened<R> {
 }
 
 /// Why a file is no recording.
-fn refused<R: Drop>(fault: &PcapFault, file: Headed<R>) -> ReadFault {
+fn refused<R: Drop>(fault: &PcapFault, file: Headed<R>) -> ReadFault
+    ensures { (read left : Option (List ℕ)) → FailsToBegin read left fault.now → IsReadFaultOf read result }
+{
     match fault.kind {
         FaultKind::NotARecording => ReadFault::NoRecording(hint(file.head())),
         kind => ReadFault::Format(kind),
@@ -104,6 +110,7 @@ pub fn read_whole<R: Read + Drop>(
     session: &mut Session,
 ) -> Result<(), ReadFault>
     ensures read { (named : List ℕ) → IsSessionAfter session.old named [] [] [] nothing_noticed → OnOk result (IsReadWhole (R.Read.remaining reader) session.new named) }
+    ensures why { IfErr result (IsReadFaultOf (R.Read.remaining reader)) }
     ensures wanted { session.new.kept.wanted ≡ session.old.kept.wanted }
 {
     let mut opened = Opened::begin(alloc, reader)?;
@@ -122,6 +129,7 @@ fn read_frames<R: Read + Drop>(
 ) -> Result<(), ReadFault>
     ensures read { (file : Option (List ℕ)) (named : List ℕ) → IsReadOn (HasRead R.Read.remaining file opened.old) session.old named
         → OnOk result (IsReadOn (HasRead R.Read.remaining file opened.new) session.new named) }
+    ensures why { (file : Option (List ℕ)) → IfErr result (IsReadFaultOf file) }
     ensures ends { OnOk result (HasEnded opened.new.recording session.new.notes) }
     ensures at_end { standing_of opened.old.recording ≡ Standing.Open
         → OnOk result (standing_of opened.new.recording ≡ Standing.Over → IsAtEnd (left_of R.Read.remaining opened.new)) }

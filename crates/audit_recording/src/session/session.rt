@@ -1,6 +1,6 @@
 //! A recording, as far as it was read.
 
-ghost use Rattle.std.specs.Prelude.{◌≡◌, ◌≢◌, ◌==◌, ◌≤◌, ◌<◌, ◌-◌, ◌⊎◌, ◌∷◌, ◌++◌, [], ℕ, List, IfErr, IfOk, IfSome, IsErr, if◌then◌else◌, IsSome, MatchBool, OnErr, OnOk, None, Some, Ok, Err, option_map, length, slice_get, true, false};
+ghost use Rattle.std.specs.Prelude.{◌≡◌, ◌≢◌, ◌==◌, ◌≤◌, ◌<◌, ◌-◌, ◌⊎◌, ◌∷◌, ◌++◌, [], ℕ, List, IfErr, IfOk, IfSome, IsErr, if◌then◌else◌, IsSome, MatchBool, OnErr, OnOk, Option, None, Some, Ok, Err, option_map, length, slice_get, true, false};
 ghost use Rattle.std.specs.BTreeMap.{get, keys};
 ghost use Rattle.std.specs.Io.KnownBytes.{Consumes, IsAtEnd, prepend_known};
 ghost use Rattle.std.specs.Ordering.{nat_cmp};
@@ -23,6 +23,7 @@ ghost use Rattle.audit_recording.specs.Losses.Noted.{IsAsked, IsFirst, IsMissing
 ghost use Rattle.audit_recording.specs.Session.Noted.{AreNotesOf, Noticed, nothing_noticed, stretch_of};
 ghost use Rattle.audit_recording.specs.Session.Recording.{AddsOne, IsCarriedBy, IsNoticedOf, intact_at, intact_by, placing, setting_aside};
 ghost use Rattle.audit_recording.specs.Session.Kept.{AreJudgesLeft, GivesNone, IsSessionAfter, IsSessionOf, ReadsOn};
+ghost use Rattle.audit_recording.specs.Session.Opened.{IsReadFaultOf};
 ghost use Rattle.audit_recording.specs.Session.Over.{IsOldestOver};
 ghost use Rattle.audit_recording.specs.Session.Texts.{AreTextsKept, IsNoneNumbered, opened_numbers, ordinal};
 ghost use Rattle.audit_recording.specs.Session.Trails.{AreTrailsBegun, AreTrailsKept, IsTrailAfter};
@@ -133,6 +134,7 @@ impl Session {
         ensures fault { result ≡ Ok true → self.new.notes.fault ≡ self.old.notes.fault }
         ensures judging { self.new.audit.judge.judging ≡ self.old.audit.judge.judging }
         ensures wanted { self.new.kept.wanted ≡ self.old.kept.wanted }
+        ensures why { (file : Option (List ℕ)) → IfErr result (IsReadFaultOf file) }
     {
         match self.audit.next_into(alloc, reader, recording, event) {
             Ok(NextFrame::End) => Ok(false),
@@ -152,6 +154,7 @@ impl Session {
         ensures over { result ≢ Ok true }
         ensures told { fault.kind ≢ Kind.Memory → result ≡ Ok false }
         ensures kept { self.new.kept ≡ self.old.kept }
+        ensures why { (file : Option (List ℕ)) → IfErr result (IsReadFaultOf file) }
     {
         if let FaultKind::Memory = fault.kind {
             return Err(ReadFault::Memory);
@@ -196,6 +199,7 @@ impl Session {
             → IsCarriedBy event.old given carried c → a.place ≡ (framed_after named carried c).placed.place
             → AreTextsKept self.old.kept named carried → OnOk result (AreTextsKept self.new.kept named (c ∷ carried)) }
         ensures wanted { self.new.kept.wanted ≡ self.old.kept.wanted }
+        ensures why { (file : Option (List ℕ)) → IfErr result (IsReadFaultOf file) }
     {
         self.notes.lose(alloc, event.old())?;
         self.notes.lose_all(alloc, event.take_ousted(alloc))?;
@@ -236,6 +240,7 @@ impl Session {
             → IsCarriedBy event.now given carried c → a.place ≡ (framed_after named carried c).placed.place
             → AreTextsKept self.old.kept named carried → OnOk result (AreTextsKept self.new.kept named (c ∷ carried)) }
         ensures wanted { self.new.kept.wanted ≡ self.old.kept.wanted }
+        ensures why { (file : Option (List ℕ)) → IfErr result (IsReadFaultOf file) }
     {
         match event.fate() {
             Fate::Datagram(datagram) => self.pass(alloc, event, &datagram, found),
@@ -277,6 +282,7 @@ impl Session {
             → a.place ≡ (framed_after named carried c).placed.place
             → AreTextsKept self.old.kept named carried → OnOk result (AreTextsKept self.new.kept named (c ∷ carried)) }
         ensures wanted { self.new.kept.wanted ≡ self.old.kept.wanted }
+        ensures why { (file : Option (List ℕ)) → IfErr result (IsReadFaultOf file) }
     {
         let Some(found) = found else {
             return Ok(());
@@ -485,7 +491,8 @@ fn intact_by(checksum: Checksum) -> Option<bool>
 
 /// The judges take no datagram any more.
 fn refuse(fault: AttributionFault) -> Result<bool, ReadFault>
-    ensures { IsErr result }
+    ensures refuses { IsErr result }
+    ensures why { (file : Option (List ℕ)) → IfErr result (IsReadFaultOf file) }
 {
     match fault {
         AttributionFault::Memory => Err(ReadFault::Memory),

@@ -1,6 +1,7 @@
-ghost use Rattle.std.specs.Prelude.{◌≡◌, ◌<◌, List, [], ◌∷◌, Some, IfNone, IfSome, slice_index_or};
+ghost use Rattle.std.specs.Prelude.{◌≡◌, ◌<◌, ◌≤◌, ℕ, false, List, [], ◌∷◌, Some, IfNone, IfSome, slice_index_or};
 ghost use Rattle.tftp_packet.specs.Hosts.{Datagram};
 ghost use Rattle.judge_pair.specs.Blocks.{with_block};
+ghost use Rattle.judge_pair.specs.declared.counts.packets.CountedPacket.TheVariants.{Data};
 ghost use Rattle.judge_pair.specs.Counts.Counts.{Answers, AreCounted, AreLost, AreRepeated, Counted, IsCountOf, TakesRoom, counts_of, number_of, packet_of as packet_number, sent, taken};
 
 use crate::counts::packets::CountedPacket;
@@ -50,6 +51,15 @@ impl Counts {
         ensures { (passed : List Datagram) → IsCountOf self.now passed → result ≡ taken (number_of packet) passed }
     {
         self.taken.at(packet.number())
+    }
+
+    /// Whether a DATA or an ACK of this block or a later one may have passed. None has where it says no.
+    pub fn reaches(&self, block: u32) -> bool
+        ensures { (passed : List Datagram) (packet : ℕ) → IsCountOf self.now passed → result ≡ false → number_of (Data block) ≤ packet
+            → (sent packet passed ≡ 0) × (taken packet passed ≡ 0) }
+    {
+        let packet = CountedPacket::Data(block).number();
+        self.sent.reaches(packet) || self.taken.reaches(packet)
     }
 
     /// At least how many copies of what went out here did not come in at the other end. None where they are 2^64 or more.

@@ -1,4 +1,4 @@
-ghost use Rattle.std.specs.Prelude.{◌≡◌, ◌+◌, ◌<◌, ◌≤◌, ◌==◌, ℕ, [], if◌then◌else◌, length, slice_index_or, IfErr, IfNone, OnOk, OnSome};
+ghost use Rattle.std.specs.Prelude.{◌≡◌, ◌+◌, ◌<◌, ◌≤◌, ◌==◌, ℕ, [], if◌then◌else◌, length, nat_lt, slice_index_or, IfErr, IfNone, OnOk, OnSome};
 ghost use Rattle.judge_pair.specs.Counts.Counts.{Answers, IsSurplus, TakesRoom};
 
 use std::alloc::{AllocError, Global};
@@ -40,6 +40,13 @@ impl Table {
             Some(count) => *count,
             None => 0,
         }
+    }
+
+    /// Whether this packet or one with a higher number has a place. One that has none never passed.
+    pub fn reaches(&self, packet: usize) -> bool
+        ensures { result ≡ nat_lt packet (length self.now) }
+    {
+        packet < self.counts.len()
     }
 
     /// By how much this is above another, of all packets together. None where that is 2^64 or more.

@@ -38,3 +38,6 @@ returns-in_err-listed-clause-why g c named is zero =
     same_fault c.from_residual-in_err-listed.result _ _ c.from_residual-in_err-listed.ensures.1
     (c.in_err-listed.ensures.why c.args.lister.now file named
     (begins_listing g.W.Write.contents c.args.lister.now (HasRead g.R.Read.remaining file c.in_ok-opened.opened) c.args.session.now named zero c.in_ok-opened.ensures.begun is))
+
+pub returns-in_err-opened-clause-why : goal.returns-in_err-opened-clause-why
+returns-in_err-opened-clause-why g c named is zero = same_fault c.from_residual.result _ _ c.from_residual.ensures.1 c.in_err-opened.ensures.why

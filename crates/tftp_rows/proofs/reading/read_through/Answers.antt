@@ -23,7 +23,7 @@ returns-in_err-closed-clause-part g c named is none zero =
     (begins_reading g.W.Write.contents (may_lose_in c.in_ok-opened.opened) c.args.teller.now (HasRead g.R.Read.remaining file c.in_ok-opened.opened) c.args.session.now named none zero c.in_ok-opened.ensures.begun is) in
     on_err c.from_residual-in_err-closed.result
     (stops_there g.W.Write.contents (may_lose_in c.tell_frames-read.new.opened) c.args.teller.now c.tell_frames-read.new.teller file (left_of g.R.Read.remaining c.tell_frames-read.new.opened) c.tell_frames-read.new.opened.recording c.tell_frames-read.new.session c.args.session.now.audit.judge.judging named on
-    c.in_ok-read.ensures.judging)
+    c.in_ok-read.ensures.judging (λ bytes quiet none. quiet none))
 
 pub returns-clause-told : goal.returns-clause-told
 returns-clause-told g c named is none zero =
@@ -34,6 +34,7 @@ returns-clause-told g c named is none zero =
     (c.in_ok-read.ensures.at_end c.in_ok-opened.ensures.open) c.in_ok-read.ensures.ends c.in_ok-closed.ensures.judging c.in_ok-closed.ensures.fault
     (λ out history carried s after. c.in_ok-closed.ensures.closed named out history carried s after)
     (λ history read. none_lost g.R.Read.remaining file c.tell_frames-read.new.opened history read)
+    (λ bytes quiet none. quiet none)
 
 pub returns-in_err-read-clause-why : goal.returns-in_err-read-clause-why
 returns-in_err-read-clause-why g c named is none zero =
@@ -41,3 +42,6 @@ returns-in_err-read-clause-why g c named is none zero =
     same_fault c.from_residual-in_err-read.result _ _ c.from_residual-in_err-read.ensures.1
     (c.in_err-read.ensures.why c.args.teller.now file named
     (begins_reading g.W.Write.contents (may_lose_in c.in_ok-opened.opened) c.args.teller.now (HasRead g.R.Read.remaining file c.in_ok-opened.opened) c.args.session.now named none zero c.in_ok-opened.ensures.begun is))
+
+pub returns-in_err-opened-clause-why : goal.returns-in_err-opened-clause-why
+returns-in_err-opened-clause-why g c named is none zero = same_fault c.from_residual.result _ _ c.from_residual.ensures.1 c.in_err-opened.ensures.why

@@ -2,6 +2,7 @@ use Rattle.std.proofs.Common.{rules, ap, ◌∷◌, ◌+◌, ◌∙◌, refl, su
 use Rattle.audit_recording.specs.Session.Kept.{IsSessionAfter}
 use Rattle.audit_recording.specs.Session.Opened.{HasRead, left_of, may_lose_in}
 use Rattle.tftp_rows.specs.Whole.{IsReadOn, numbers_of}
+use Rattle.tftp_rows.proofs.FaultLemmas.{same_fault}
 use Rattle.tftp_rows.proofs.ReadingLemmas.{frame_came, many_frames, none_came, one_frame_more, read_end, read_one, stops_telling, stops_there, told_over_for}
 use Rattle.tftp_rows.proofs.TellingLemmas.{on_err}
 use Rattle.tftp_rows.proofs.reading.tell_frames.Goals as goal
@@ -42,7 +43,8 @@ loop-turn-preserved g c = record {
 pub returns-in_err-next-clause-part : goal.returns-in_err-next-clause-part
 returns-in_err-next-clause-part g c begun file named was =
     on_err c.from_residual.result
-    (stops_there g.W.Write.contents (may_lose_in c.args.opened.now) begun c.loop-turn.teller file (left_of g.R.Read.remaining c.loop-turn.opened) c.loop-turn.opened.recording c.loop-turn.session c.args.session.now.audit.judge.judging named (c.loop-turn.invariant.told begun file named was).0 c.loop-turn.invariant.judging)
+    (stops_there g.W.Write.contents (may_lose_in c.args.opened.now) begun c.loop-turn.teller file (left_of g.R.Read.remaining c.loop-turn.opened) c.loop-turn.opened.recording c.loop-turn.session c.args.session.now.audit.judge.judging named (c.loop-turn.invariant.told begun file named was).0 c.loop-turn.invariant.judging
+    (λ bytes quiet none. quiet (c.loop-turn.invariant.stays ∙ none)))
 
 pub returns-in_err-tell_over-clause-part : goal.returns-in_err-tell_over-clause-part
 returns-in_err-tell_over-clause-part g c begun file named was =
@@ -54,13 +56,18 @@ returns-in_err-tell_over-clause-part g c begun file named was =
     (stops_telling g.W.Write.contents (may_lose_in c.args.opened.now) begun c.loop-turn.teller c.tell_over.new.self c.next.new.session.notes.may_lose file (left_of g.R.Read.remaining c.next.new.self) c.next.new.self.recording c.next.new.session c.args.session.now.audit.judge.judging named (came.0 ∷ so.0) came.1 came.2 so.3 one
     (c.in_ok-next.ensures.judging ∙ c.loop-turn.invariant.judging)
     (c.in_ok-next.ensures.may_lose ∙ (c.in_ok-next.ensures.stays ∙ c.loop-turn.invariant.stays))
-    (c.in_err-tell_over.ensures.part named (numbers_of so.3) (came.0 ∷ so.0) came.1 came.2 one.session_is))
+    (c.in_err-tell_over.ensures.part named (numbers_of so.3) (came.0 ∷ so.0) came.1 came.2 one.session_is)
+    (λ bytes quiet none. quiet (c.in_ok-next.ensures.stays ∙ (c.loop-turn.invariant.stays ∙ none))))
 
 pub returns-clause-part : goal.returns-clause-part
 returns-clause-part g c begun file named was =
     stops_there g.W.Write.contents (may_lose_in c.args.opened.now) begun c.loop-turn.teller file (left_of g.R.Read.remaining c.loop-turn.opened) c.loop-turn.opened.recording c.loop-turn.session c.args.session.now.audit.judge.judging named (c.loop-turn.invariant.told begun file named was).0 c.loop-turn.invariant.judging
+    (λ bytes quiet none. quiet (c.loop-turn.invariant.stays ∙ none))
 
 pub returns-clause-why : goal.returns-clause-why
 returns-clause-why g c begun file named was =
     let told = c.loop-turn.invariant.told begun file named was in
     many_frames file (left_of g.R.Read.remaining c.loop-turn.opened) c.loop-turn.opened.recording told.0.0 c.loop-turn._turn told.0.4.read told.1 (search rules)
+
+pub returns-in_err-next-clause-why : goal.returns-in_err-next-clause-why
+returns-in_err-next-clause-why g c begun file named was = same_fault c.from_residual.result _ _ c.from_residual.ensures.1 (c.in_err-next.ensures.why file)

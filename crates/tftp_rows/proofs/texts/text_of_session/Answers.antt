@@ -71,3 +71,8 @@ returns g c new wanted fresh =
       written = fresh_wrote g.W.Write.contents c.args.writer.now c.write.new.writer text fresh wrote;
       fresh = fresh_again g.W.Write.contents c.args.writer.now c.write.new.writer text wrote;
     }
+
+pub returns-in_err-read_whole : goal.returns-in_err-read_whole
+returns-in_err-read_whole g c new wanted fresh =
+    text_stops g.W.Write.contents g.E.Write.contents c.args.of.now c.args.remarks.now c.args.remarks.now c.args.writer.now c.args.writer.now (g.R.Read.remaining c.args.reader) c.args.number c.from_residual.result _ c.from_residual.ensures.1
+    (refl, refl, c.in_err-read_whole.ensures.why)

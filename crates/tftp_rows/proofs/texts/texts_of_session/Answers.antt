@@ -36,3 +36,8 @@ returns g c new wanted fresh =
     texts_by g.W.Write.contents g.E.Write.contents c.args.of.now c.args.remarks.now c.write_each.new.remarks c.args.writer.now c.write_each.new.writer file session.notes (read_by file session named whole) c.write_each.result
     (each_after g.W.Write.contents g.E.Write.contents c.args.of.now c.args.remarks.now c.tell_rest.new.self c.write_each.new.remarks c.in_ok-tell_rest.ensures.same c.args.writer.now c.write_each.new.writer session.notes whole.carried s rest noted c.write_each.result
     (c.write_each.ensures whole.history whole.carried s whole.closed.kept (c.in_ok-read_whole.ensures.wanted ∙ wanted) (c.as_slice.ensures.value ∙ c.in_ok-keys.ensures.keys) (c.as_slice.ensures.value ∙ in_order) fresh))
+
+pub returns-in_err-read_whole : goal.returns-in_err-read_whole
+returns-in_err-read_whole g c new wanted fresh =
+    texts_stop g.W.Write.contents g.E.Write.contents c.args.of.now c.args.remarks.now c.args.remarks.now c.args.writer.now c.args.writer.now (g.R.Read.remaining c.args.reader) c.from_residual.result _ c.from_residual.ensures.1
+    (refl, refl, c.in_err-read_whole.ensures.why)

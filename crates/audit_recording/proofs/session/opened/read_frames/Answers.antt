@@ -1,6 +1,7 @@
 use Rattle.std.proofs.Common.{ap, refl, Ok, ◌∙◌}
 use Rattle.audit_recording.specs.Session.Opened.{HasRead}
 use Rattle.audit_recording.proofs.SessionLemmas.Reading.{frame_on, none_on}
+use Rattle.audit_recording.proofs.SessionLemmas.Faults.{same_fault}
 use Rattle.audit_recording.proofs.session.opened.read_frames.Goals as goal
 
 pub loop-turn-init : goal.loop-turn-init
@@ -27,3 +28,6 @@ loop-turn-preserved g c = record {
   goes = λ began. c.in_ok-next.ensures.goes (ap Ok c.if-not-branch.false);
   wanted = c.in_ok-next.ensures.wanted ∙ c.loop-turn.invariant.wanted;
 }
+
+pub returns-in_err-next-clause-why : goal.returns-in_err-next-clause-why
+returns-in_err-next-clause-why g c file = same_fault c.from_residual.result _ _ c.from_residual.ensures.1 (c.in_err-next.ensures.why file)

@@ -10,3 +10,6 @@ returns-in-Ok-clause-begun g c =
       read.2,
       λ quiet. begins_lossless c.in-Ok.recording read.0 [] read.2 (sym c.may_lose.ensures ∙ quiet),
     )
+
+pub returns-in-Err-clause-why : goal.returns-in-Err-clause-why
+returns-in-Err-clause-why g c = c.refused.ensures (g.R.Read.remaining c.args.reader) _ (rw c.new.ensures.inner at (rw c.new-reader.ensures at c.in-Err.ensures.err))

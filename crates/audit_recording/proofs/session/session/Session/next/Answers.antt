@@ -137,7 +137,7 @@ returns-in-Err-Judges-clause-goes_on g c named out bytes history carried s stand
     let read = c.in-Err-Judges.ensures.continues named out bytes history (datagrams_of carried) stands is.kept.audit in (
       read.0,
       read.1,
-      errs_so (λ frames datagrams noticed. StandsFor c.next_into.new.recording (bytes ++ read.0) frames × IsSessionAfter (record c.args.self.now { audit = c.next_into.new.self }) named out frames datagrams noticed) history carried s c.refuse.result c.refuse.ensures,
+      errs_so (λ frames datagrams noticed. StandsFor c.next_into.new.recording (bytes ++ read.0) frames × IsSessionAfter (record c.args.self.now { audit = c.next_into.new.self }) named out frames datagrams noticed) history carried s c.refuse.result c.refuse.ensures.refuses,
     )
 
 pub returns-in-Ok-Nothing-clause-wants : goal.returns-in-Ok-Nothing-clause-wants

@@ -1,6 +1,7 @@
 use Rattle.std.proofs.Common.{refl}
 use Rattle.net_udp.specs.declared.recording.fate.Fate.TheVariants.{Left, Waits}
 use Rattle.audit_recording.proofs.SessionLemmas.Recording.{carried_same, given_once, left_told, not_discarded, not_left, not_waiting, reached_is, waits_told}
+use Rattle.audit_recording.proofs.SessionLemmas.Faults.{same_fault}
 use Rattle.audit_recording.proofs.session.session.Session.note.Goals as goal
 
 pub returns-in-Datagram-clause-none : goal.returns-in-Datagram-clause-none
@@ -65,3 +66,12 @@ returns-in_ok-wait-in-Waits-clause-texts c named carried x a given is came carri
 pub returns-in_ok-discard-in-Discarded-clause-texts : goal.returns-in_ok-discard-in-Discarded-clause-texts
 returns-in_ok-discard-in-Discarded-clause-texts c named carried x a given is came carries at kept =
     absurd (not_discarded c.args.event.now given c.in-Discarded.datagram came c.in-Discarded.ensures.is)
+
+pub returns-in_err-leave-in-Left-clause-why : goal.returns-in_err-leave-in-Left-clause-why
+returns-in_err-leave-in-Left-clause-why c file = same_fault c.from_residual.result _ _ c.from_residual.ensures.1 tt
+
+pub returns-in_err-wait-in-Waits-clause-why : goal.returns-in_err-wait-in-Waits-clause-why
+returns-in_err-wait-in-Waits-clause-why c file = same_fault c.from_residual-in_err-wait-in-Waits.result _ _ c.from_residual-in_err-wait-in-Waits.ensures.1 tt
+
+pub returns-in_err-discard-in-Discarded-clause-why : goal.returns-in_err-discard-in-Discarded-clause-why
+returns-in_err-discard-in-Discarded-clause-why c file = same_fault c.from_residual-in_err-discard-in-Discarded.result _ _ c.from_residual-in_err-discard-in-Discarded.ensures.1 tt

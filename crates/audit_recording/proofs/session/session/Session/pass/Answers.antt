@@ -14,6 +14,7 @@ use Rattle.audit_recording.specs.Session.Texts.{AreTextsKept}
 use Rattle.audit_recording.specs.declared.blame.passing.Passing.{Passing}
 use Rattle.audit_recording.specs.declared.session.kept.Kept.{Kept}
 use Rattle.audit_recording.proofs.SessionLemmas.Recording.{reached_is}
+use Rattle.audit_recording.proofs.SessionLemmas.Faults.{same_fault}
 use Rattle.audit_recording.proofs.session.session.Session.pass.Goals as goal
 
 pub returns-clause-notes : goal.returns-clause-notes
@@ -98,3 +99,18 @@ returns-clause-texts c named carried d a is carries at kept =
     } in
     let noted = c.in_ok-note.ensures.texts named d carried is_fed passes kept in
     subst (λ (k : Kept). AreTextsKept k named (d ∷ carried)) (sym c.follow.ensures.kept) noted
+
+pub returns-in_err-find-clause-why : goal.returns-in_err-find-clause-why
+returns-in_err-find-clause-why c file = same_fault c.from_residual.result _ _ c.from_residual.ensures.1 tt
+
+pub returns-in_err-pass-clause-why : goal.returns-in_err-pass-clause-why
+returns-in_err-pass-clause-why c file = same_fault c.from_residual-in_err-pass.result _ _ c.from_residual-in_err-pass.ensures.1 tt
+
+pub returns-in_err-ask-clause-why : goal.returns-in_err-ask-clause-why
+returns-in_err-ask-clause-why c file = same_fault c.from_residual-in_err-ask.result _ _ c.from_residual-in_err-ask.ensures.1 tt
+
+pub returns-in_err-note-clause-why : goal.returns-in_err-note-clause-why
+returns-in_err-note-clause-why c file = same_fault c.from_residual-in_err-note.result _ _ c.from_residual-in_err-note.ensures.1 tt
+
+pub returns-in_err-follow-clause-why : goal.returns-in_err-follow-clause-why
+returns-in_err-follow-clause-why c file = same_fault c.from_residual-in_err-follow.result _ _ c.from_residual-in_err-follow.ensures.1 tt
