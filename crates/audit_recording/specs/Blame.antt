@@ -1,4 +1,5 @@
 pub mod Frames
+pub mod Spoilt
 pub mod Named
 pub mod Facts
 pub mod Kept

@@ -1,10 +1,15 @@
 pub mod Headed
 pub mod Intact
 pub mod Told
+pub mod Firsts
+pub mod Hidden
+pub mod Strays
 pub mod Lines
 pub mod Noted
+pub mod Beside
 pub mod Recording
 pub mod Trails
+pub mod HandedOut
 pub mod Plain
 pub mod Texts
 pub mod Requests

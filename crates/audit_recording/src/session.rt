@@ -1,6 +1,7 @@
 //! A recording as it is read, a frame after the other: its transfers, each judged where that is wanted, the capture texts
 //! that are wanted, and what is to be told of the recording as a whole.
 
+mod asked;
 mod begun;
 mod behind;
 mod clock;

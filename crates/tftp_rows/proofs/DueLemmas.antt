@@ -106,7 +106,7 @@ asked_leaving at n true one other p q = p
 asked_leaving at n false one other p q = q
 
 asked_left : (at : Address → Bool) (n : ℕ) (b : Bool) (why : LeftOut) (event : EventState) (s t : Noticed) → Leaves b why event s t → IsAsked at n s.events → IsAsked at n t.events
-asked_left at n true why event s t (hosts, are, same) is =
+asked_left at n true why event s t (hosts, header, are, known, same) is =
     subst (λ (r : Noticed). IsAsked at n r.events) (sym same) (asked_then at n (others event.frame.number (sharers_of event)) s is)
 asked_left at n false why event s t same is =
     subst (λ (r : Noticed). IsAsked at n r.events) (sym same)

@@ -8,7 +8,9 @@ use Rattle.net_udp.specs.declared.frames.link.Network.{Network}
 use Rattle.net_udp.specs.declared.recording.fate.Datagram.{Datagram as Given}
 use Rattle.net_udp.specs.declared.recording.fate.Fate.TheVariants.{Datagram, Discarded, Left, Waits}
 use Rattle.net_udp.specs.declared.recording.fate.LeftOut.{LeftOut}
+use Rattle.net_udp.specs.declared.frames.unread.UnreadHeader.{UnreadHeader}
 use Rattle.net_udp.proofs.FramesLemmas.Tunnels.{linked_one}
+use Rattle.net_udp.proofs.FramesLemmas.UnreadOnce.{header_once}
 use Rattle.audit_flows.specs.{Place}
 use Rattle.audit_flows.specs.declared.lines.place.Place.TheVariants.{Opens, Repeats, Talks, Apart, Beside, Nowhere}
 use Rattle.audit_recording.specs.Audit.{IsOfEvent}
@@ -16,7 +18,7 @@ use Rattle.audit_recording.specs.Blame.Frames.{Carried, framed_after}
 use Rattle.audit_recording.specs.Losses.Noted.{Event}
 use Rattle.audit_recording.specs.Losses.Noted.Event.{Asks, Finds, GivesUp, Loses, Waits as Awaits}
 use Rattle.audit_recording.specs.Session.Intact.{Gone}
-use Rattle.audit_recording.specs.Session.Noted.{AreHostsOf, Noticed, finding, frames_in, giving_up, going, is_none, losing, may_be_datagram, moment_in, noting, one_by_one, others, sharers_of, unread_in, with_time}
+use Rattle.audit_recording.specs.Session.Noted.{AreHostsOf, IsHeaderOf, Noticed, finding, frames_in, giving_up, going, is_none, losing, may_be_datagram, moment_in, noting, one_by_one, others, sharers_of, unread_in, with_time}
 use Rattle.audit_recording.specs.Session.Over.{AreLater, IsLater}
 use Rattle.audit_recording.specs.Session.Recording.{AddsOne, IsNoticedOf, Leaves, gone_by, letting_go, placing, reached_by}
 use Rattle.audit_recording.proofs.SessionLemmas.Recording.{fate_once}
@@ -34,6 +36,12 @@ hosts_once event (Some h) (Some g) p q =
     let from : h.0 ≡ g.0 = p.from ∙ (subst (λ (l : Linked). source_of p.network p.linked.content ≡ source_of q.network l.content) same (ap {A = Network} (λ n. source_of n p.linked.content) network) ∙ sym q.from) in
     let to : h.1 ≡ g.1 = p.to ∙ (subst (λ (l : Linked). target_of p.network p.linked.content ≡ target_of q.network l.content) same (ap {A = Network} (λ n. target_of n p.linked.content) network) ∙ sym q.to) in
     subst (λ (i : IpAddr). Some h ≡ Some (i, g.1)) from (subst (λ (i : IpAddr). Some h ≡ Some (h.0, i)) to refl)
+
+headers_once : (event : EventState) (one other : Option UnreadHeader) → IsHeaderOf event one → IsHeaderOf event other → one ≡ other
+headers_once event None None p q = refl
+headers_once event None (Some u) p q = absurd (p u q)
+headers_once event (Some u) None p q = absurd (q u p)
+headers_once event (Some u) (Some v) p q = ap Some (header_once event.frame.parts.link event.frame.parts.bytes u v p q)
 
 -- the event in a frame for which so much room is
 abbrev at_room : ℕ → EventState → EventState
@@ -61,7 +69,7 @@ leaves_room false why room event s t is = is
 adds_room : (named : List ℕ) (room : ℕ) (event : EventState) (fate : Fate) (older : List Carried) (s : Noticed) (all : List Carried) (t : Noticed) → AddsOne named (at_room room event) fate older s all t
     → AddsOne named event fate older s all t
 adds_room named room event (Datagram given) older s all t (c, is, more, same) =
-    (c, record { frame = is.frame; time = is.time; is_doubtful = is.is_doubtful; has_error = is.has_error; taken = is.taken }, more, same_placing (framed_after named older c).placed.place c s same) where
+    (c, record { frame = is.frame; time = is.time; is_doubtful = is.is_doubtful; has_error = is.has_error; checksum = is.checksum; taken = is.taken }, more, same_placing (framed_after named older c).placed.place c s same) where
       same_placing : (place : Place) (c : Carried) (s : Noticed) → t ≡ placing place (at_room room event) c s → t ≡ placing place event c s
       same_placing (Opens x) c s is = is
       same_placing (Repeats x) c s is = is
@@ -74,8 +82,10 @@ adds_room named room event Waits older s all t is = is
 adds_room named room event (Discarded given) older s all t is = is
 
 leaves_once : (b : Bool) (why : LeftOut) (event : EventState) (before s t : Noticed) → Leaves b why event before s → Leaves b why event before t → s ≡ t
-leaves_once true why event before s t (hosts, are, same) (others, also, as_well) =
-    same ∙ (ap {A = Option (IpAddr × IpAddr)} (λ h. losing (reached_by before.times) event h before) (hosts_once event hosts others are also) ∙ sym as_well)
+leaves_once true why event before s t (hosts, header, are, is, same) (others, another, also, one, as_well) =
+    same
+    ∙ (ap {A = Option (IpAddr × IpAddr)} (λ h. losing (reached_by before.times) event h header before) (hosts_once event hosts others are also)
+    ∙ (ap {A = Option UnreadHeader} (λ u. losing (reached_by before.times) event others u before) (headers_once event header another is one) ∙ sym as_well))
 leaves_once false why event before s t same as_well = same ∙ sym as_well
 
 gone_once : (event : EventState) (d e : Given) (times : List ℕ) → IsSameDatagram d e → gone_by event d times ≡ gone_by event e times
@@ -218,7 +228,7 @@ module _ (newest moment : ℕ) (was : List Event) (event : EventState) (after : 
   leaving_later false one other p q = q
 
   left_later : (b : Bool) (why : LeftOut) (s t : Noticed) → Leaves b why event s t → GoesUp newest moment was s → GoesUp newest moment was t
-  left_later true why s t (hosts, are, same) up =
+  left_later true why s t (hosts, header, are, is, same) up =
       subst (GoesUp newest moment was) (sym same) (
         grew_one newest moment was (giving_up (others event.frame.number (sharers_of event)) s).events (Loses (unread_in (reached_by s.times) event hosts s.times))
             (after, moment_up (reached_by s.times) moment event s.times up.1) (grew_giving_up newest moment (others event.frame.number (sharers_of event)) was s up.0),

@@ -54,6 +54,8 @@ kept_nowhere t judging x named carried is = record {
   twice = is.twice;
   copied_from = is.copied_from;
   damaged = is.damaged;
+  from_client = is.from_client;
+  to_client = is.to_client;
   closing = is.closing;
   blame = record { client = λ no. absurd (false≢true no); server = λ no. absurd (false≢true no) };
 }

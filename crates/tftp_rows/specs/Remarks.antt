@@ -2,7 +2,8 @@
 use Rattle.std.specs.Prelude.{◌≡◌, ◌==◌, ◌++◌, ℕ, List, [], ◌∷◌, Option, Some, None, Result, Ok, Err, codes, decimal, flat_map, if◌then◌else◌}
 use Rattle.std.specs.Io.KnownBytes.{Appends}
 use Rattle.audit_recording.specs.Session.Lines.{lines_told, ports_text}
-use Rattle.audit_recording.specs.Session.Noted.{Noticed, told_in}
+use Rattle.audit_recording.specs.Session.Noted.{Noticed}
+use Rattle.audit_recording.specs.Session.Strays.{asked_ports}
 use Rattle.audit_recording.specs.declared.session.notes.Notes.{Notes}
 
 -- ---- a line behind the names of the program and the file
@@ -29,9 +30,10 @@ ports_lines (Some ports) = ports_line ports ∷ []
 abbrev pub none_lines : Option (List ℕ) → List (List ℕ)
 none_lines ports = ports_lines ports ++ codes "no request passed, so there is no transfer" ∷ []
 
--- What was noticed, each kind once; and behind it, where no transfer was told, that.
+-- What was noticed, each kind once; and behind it, where no transfer was told, that. Of what was kept the packets that the recorder lost and the
+-- fault count alone.
 abbrev pub rest_lines : Notes → Noticed → ℕ → List (List ℕ)
-rest_lines notes s told = lines_told (told_in s) notes ++ (if told == 0 then none_lines (ports_text notes.asked.items) else [])
+rest_lines notes s told = lines_told s notes.dropped notes.fault ++ (if told == 0 then none_lines (ports_text (asked_ports s.strays)) else [])
 
 -- ---- of a transfer without a text
 

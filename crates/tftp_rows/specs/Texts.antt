@@ -9,7 +9,7 @@ use Rattle.audit_flows.specs.{Transfer}
 use Rattle.audit_recording.specs.Blame.Frames.{Carried, whole_of}
 use Rattle.audit_recording.specs.Judges.{opened}
 use Rattle.audit_recording.specs.Session.Lines.{lines_told}
-use Rattle.audit_recording.specs.Session.Noted.{AreNotesOf, Noticed, frames_in, giving_up, told_in}
+use Rattle.audit_recording.specs.Session.Noted.{AreNotesOf, Noticed, frames_in, giving_up}
 use Rattle.audit_recording.specs.Session.Opened.{HasEnded, IsReadFaultOf}
 use Rattle.audit_recording.specs.Session.Recording.{IsNoticedOf}
 use Rattle.audit_recording.specs.Session.Texts.{IsTextFault, IsWhole, opened_count, ordinal, text_of}
@@ -95,7 +95,7 @@ module _ {E : Type 0} (errors : E → Option (List ℕ)) (remarks told : Remarks
   pub record IsNoted (of : TextsOf) (file : Option (List ℕ)) (Said : Option (List ℕ) → Option (List ℕ) → List ℕ → Type 0) : Type 0 where
     pub notes : Notes
     pub read : IsRecordingRead file of.services.now notes
-    pub said : IsSaid of Said (lines_told (told_in (noticed_by read)) notes)
+    pub said : IsSaid of Said (lines_told (noticed_by read) notes.dropped notes.fault)
 
 -- nothing was written
 abbrev pub IsUnwritten : {W : Type 0} → (W → Option (List ℕ)) → Sink W → Sink W → Type 0

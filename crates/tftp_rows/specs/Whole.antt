@@ -11,6 +11,7 @@ use Rattle.audit_recording.specs.Blame.Frames.{Carried, whole_of}
 use Rattle.audit_recording.specs.Judges.{is_among, opened}
 use Rattle.audit_recording.specs.Losses.Noted.{Event, IsFirst, IsMissingOf, IsTold, Since, is_soon}
 use Rattle.audit_recording.specs.Reasons.Clock.{last_of}
+use Rattle.audit_recording.specs.Session.HandedOut.{IsToldBeside}
 use Rattle.audit_recording.specs.Session.Kept.{IsSessionAfter}
 use Rattle.audit_recording.specs.Session.Noted.{AreNotesOf, Noticed, frames_in, giving_up, stretch_of}
 use Rattle.audit_recording.specs.Session.Opened.{HasEnded, IsSessionClosed, lost_in}
@@ -83,12 +84,14 @@ abbrev pub counted : List Telling → ℕ
 counted tellings = min (length tellings) (2 ^ 64 - 1)
 
 -- By this part of the recording it is the next transfer behind the older ones, and all is known of it. What there is to say of it is what the
--- part says, with what may be missing of it; and the rows are those of all its verdicts.
+-- part says, with what may be missing of it, and with what was left out or discarded that may have been of it; and the rows are those of all its
+-- verdicts.
 pub record IsToldNext (name : List ℕ) (judging : Judging) (named : List ℕ) (end : Option Part) (p : Part) (t : Telling) (older : List Telling) : Type 0 where
   pub next : IsNext t.transfer named (numbers_of older) p.carried
   pub due : IsDue end named p t.judged.trail
   pub of : IsJudgedOf t.judged judging t.transfer named p.carried
   pub missing : AreMissing t.judged.doubted.missing t.judged.trail p.noticed
+  pub beside : IsToldBeside t.judged.trail t.transfer named p.carried p.noticed.beside
   pub until : t.judged.until ≡ moment_of p.noticed
   pub rows : AreRowsAt name (counted (t ∷ older)) t.judged (places_of t.judged) t.rows
 

@@ -103,8 +103,7 @@ end_at address port = record { port = port; address = address }
 -- frame 3 is a copy and frame 8 is lost, there is nothing else to tell of the frames, and nothing looks like a request
 pub record AreOfCopyAndLoss (n : Notes) (s : Noticed) : Type 0 where
   pub told : told_in s ≡ record nothing_told { copies = 3 ∷ []; lost = 8 ∷ [] }
-  pub begun : n.begun.pairs.items ≡ []
-  pub behind : n.behind.kinds.items ≡ []
+  pub strays : s.strays ≡ []
+  pub hidden : s.hidden ≡ []
   pub dropped : n.dropped ≡ 0
   pub fault : n.fault ≡ None
-  pub asked : n.asked.items ≡ []

@@ -3,7 +3,8 @@
 ghost use Rattle.std.specs.Prelude.{◌≡◌, ◌==◌, ◌++◌, [], IfErr, IfOk, IfSome, OnErr, OnOk, false, if◌then◌else◌, map, string_bytes, true};
 ghost use Rattle.std.specs.Io.KnownBytes.{Appends};
 ghost use Rattle.audit_recording.specs.Session.Lines.{lines_told, ports_text};
-ghost use Rattle.audit_recording.specs.Session.Noted.{AreNotesOf, Noticed, told_in};
+ghost use Rattle.audit_recording.specs.Session.Noted.{AreNotesOf, Noticed};
+ghost use Rattle.audit_recording.specs.Session.Strays.{asked_ports};
 ghost use Rattle.tftp_rows.specs.Faults.{IsRemarkFault};
 ghost use Rattle.tftp_rows.specs.Remarks.{Says, lacking_line, none_lines, ports_line, ports_lines, remark_text, remarks_text, rest_lines};
 
@@ -54,7 +55,7 @@ impl<'a, E: Write + Drop> Remarks<'a, E> {
     /// Tells what there is to tell of a recording as a whole, but for whether it has a transfer.
     pub fn tell_notes(&mut self, alloc: Global, file: &str, notes: &Notes) -> Result<(), TellFault>
         ensures notes { (s : Noticed) → AreNotesOf notes.now s
-            → Says (E.Write.contents self.old.errors.0) (E.Write.contents self.new.errors.0) result (remarks_text self.old.program.now file.now (lines_told (told_in s) notes.now)) }
+            → Says (E.Write.contents self.old.errors.0) (E.Write.contents self.new.errors.0) result (remarks_text self.old.program.now file.now (lines_told s notes.now.dropped notes.now.fault)) }
         ensures same { self.new ≡ record self.old { errors = self.new.errors } }
         ensures why { IfErr result (IsRemarkFault self.new.errors.1) }
     {
@@ -117,7 +118,8 @@ fn put_absence(
     notes: &Notes,
     told: u64,
 ) -> Result<(), AllocError>
-    ensures { OnOk result (map string_bytes lines.new.items ≡ map string_bytes lines.old.items ++ (if told == 0 then none_lines (ports_text notes.now.asked.items) else [])) }
+    ensures { (s : Noticed) → AreNotesOf notes.now s
+        → OnOk result (map string_bytes lines.new.items ≡ map string_bytes lines.old.items ++ (if told == 0 then none_lines (ports_text (asked_ports s.strays)) else [])) }
 {
     if told > 0 {
         return Ok(());
@@ -129,7 +131,8 @@ fn put_absence(
 
 /// Adds at which ports something looks like a request, if anything does.
 fn put_ports(alloc: Global, lines: &mut Vec<String>, notes: &Notes) -> Result<(), AllocError>
-    ensures { OnOk result (map string_bytes lines.new.items ≡ map string_bytes lines.old.items ++ ports_lines (ports_text notes.now.asked.items)) }
+    ensures { (s : Noticed) → AreNotesOf notes.now s
+        → OnOk result (map string_bytes lines.new.items ≡ map string_bytes lines.old.items ++ ports_lines (ports_text (asked_ports s.strays))) }
 {
     match notes.asked_ports(alloc)? {
         Some(ports) => {

@@ -97,11 +97,11 @@ leaving_alone n reached why event s is are one = by (is_none why) where
 
 leaves_alone : (b : Bool) (n : ℕ) (why : LeftOut) (event : EventState) (s t : Noticed) → event.frame.number ≡ n → AreOnce n (told_in s) → AreOfOneKind (told_in s) → Leaves b why event s t
     → AreOfOneKind (told_in t)
-leaves_alone true n why event s t is are one (hosts, between, same) = subst (λ (x : Noticed). AreOfOneKind (told_in x)) (sym same) one
+leaves_alone true n why event s t is are one (hosts, header, between, has, same) = subst (λ (x : Noticed). AreOfOneKind (told_in x)) (sym same) one
 leaves_alone false n why event s t is are one same = subst (λ (x : Noticed). AreOfOneKind (told_in x)) (sym same) (leaving_alone n (reached_by s.times) why event s is are one)
 
-aside_alone : (n frame : ℕ) (s : Noticed) → frame ≡ n → AreOnce n (told_in s) → AreOfOneKind (told_in s) → AreOfOneKind (record (told_in s) { of_none = frame ∷ s.of_none })
-aside_alone n frame s is are one = subst (λ k. AreOfOneKind (record (told_in s) { of_none = k ∷ s.of_none })) (sym is) (aside n (told_in s) are one)
+aside_alone : (n frame : ℕ) (s : Noticed) → frame ≡ n → AreOnce n (told_in s) → AreOfOneKind (told_in s) → AreOfOneKind (record (told_in s) { of_none = frame ∷ (told_in s).of_none })
+aside_alone n frame s is are one = subst (λ k. AreOfOneKind (record (told_in s) { of_none = k ∷ (told_in s).of_none })) (sym is) (aside n (told_in s) are one)
 
 placing_alone : (place : Place) (n : ℕ) (event : EventState) (c : Carried) (s : Noticed) → c.frame ≡ n → AreOnce n (told_in s) → AreOfOneKind (told_in s) → AreOfOneKind (told_in (placing place event c s))
 placing_alone (Opens x) n event c s is are one = one

@@ -192,7 +192,7 @@ module _ (named : List ℕ) (k W V : ℕ) (event : EventState) (older : List Car
       (subst (λ n. Tells k n (letting_go event.brought s) (placing place event c (letting_go event.brought s))) carries.frame tells))
   stands_more (Left why) all t waits (more, leaves) = by (may_be_datagram why) leaves where
     by : (b : Bool) → Leaves b why event (letting_go event.brought s) t → Stands k (event.frame.number + 1) (V + lost_in k t) (elsewhere k (told_in t))
-    by true (hosts, between, same) =
+    by true (hosts, header, between, has, same) =
         let n = event.frame.number in
         let gone = shared_gone k n W (V + (waits_in k event.brought.ousted + count_in k event.brought.old)) event.brought.outcome (waits (λ e. cc)) goes in
         let lost : lost_in k t ≡ one_if k n + (count_in k (others n (sharers_of event)) + lost_in k (letting_go event.brought s)) =
@@ -275,7 +275,7 @@ module _ (named : List ℕ) (history : List Step) (all : List Carried) (s : Noti
     copies = apart (told_in (giving_up (frames_in (waiting history)) s)).lost s.copies (λ k some. omega (arith, none_elsewhere k some));
     discarded = apart (told_in (giving_up (frames_in (waiting history)) s)).lost (told_in s).discarded (λ k some. omega (arith, none_elsewhere k some));
     other_links = apart (told_in (giving_up (frames_in (waiting history)) s)).lost s.other_links (λ k some. omega (arith, none_elsewhere k some));
-    of_none = apart (told_in (giving_up (frames_in (waiting history)) s)).lost s.of_none (λ k some. omega (arith, none_elsewhere k some));
+    of_none = apart (told_in (giving_up (frames_in (waiting history)) s)).lost (told_in s).of_none (λ k some. omega (arith, none_elsewhere k some));
     backwards = apart (told_in (giving_up (frames_in (waiting history)) s)).lost s.backwards (λ k some. omega (arith, none_elsewhere k some));
   }
 

@@ -20,10 +20,10 @@ later n m [] low are = tt
 later n m (frame ∷ older) low are = (let is = are.0 in omega arith, are.1)
 
 -- with that frame itself
-with_it : (n : ℕ) (frames : List ℕ) → AreEarlier n frames → AreEarlier (n + 1) (n ∷ frames)
+pub with_it : (n : ℕ) (frames : List ℕ) → AreEarlier n frames → AreEarlier (n + 1) (n ∷ frames)
 with_it n frames are = (omega arith, are)
 
-one_later : (n : ℕ) (frames : List ℕ) → AreEarlier n frames → AreEarlier (n + 1) frames
+pub one_later : (n : ℕ) (frames : List ℕ) → AreEarlier n frames → AreEarlier (n + 1) frames
 one_later n frames are = later n (n + 1) frames (omega arith) are
 
 all_later : (n : ℕ) (t : Told) → AreOnce n t → AreOnce (n + 1) t
@@ -79,19 +79,19 @@ leaving_once n reached why event s is are = by (is_none why) where
     copies = subst (λ k. AreEarlier (n + 1) (copies_with why k s.copies)) (sym is) (copies_once why n s.copies are.copies);
     discarded = one_later n (told_in s).discarded are.discarded;
     other_links = subst (λ k. AreEarlier (n + 1) (other_links_with why k s.other_links)) (sym is) (links_once why n s.other_links are.other_links);
-    of_none = one_later n s.of_none are.of_none;
+    of_none = one_later n (told_in s).of_none are.of_none;
     backwards = one_later n s.backwards are.backwards;
   }
   by false = record {
     copies = subst (λ k. AreEarlier (n + 1) (copies_with why k s.copies)) (sym is) (copies_once why n s.copies are.copies);
     discarded = one_later n (told_in s).discarded are.discarded;
     other_links = subst (λ k. AreEarlier (n + 1) (other_links_with why k s.other_links)) (sym is) (links_once why n s.other_links are.other_links);
-    of_none = one_later n s.of_none are.of_none;
+    of_none = one_later n (told_in s).of_none are.of_none;
     backwards = one_later n s.backwards are.backwards;
   }
 
 leaves_once : (b : Bool) (n : ℕ) (why : LeftOut) (event : EventState) (s t : Noticed) → event.frame.number ≡ n → AreOnce n (told_in s) → Leaves b why event s t → AreOnce (n + 1) (told_in t)
-leaves_once true n why event s t is are (hosts, between, same) =
+leaves_once true n why event s t is are (hosts, header, between, has, same) =
     let now = all_later n (told_in s) are in
     subst (λ (x : Noticed). AreOnce (n + 1) (told_in x)) (sym same) (record { copies = now.copies; discarded = now.discarded; other_links = now.other_links; of_none = now.of_none; backwards = now.backwards })
 leaves_once false n why event s t is are same = subst (λ (x : Noticed). AreOnce (n + 1) (told_in x)) (sym same) (leaving_once n (reached_by s.times) why event s is are)
@@ -100,8 +100,8 @@ leaves_once false n why event s t is are same = subst (λ (x : Noticed). AreOnce
 passed_once : (n : ℕ) (c : Carried) (s : Noticed) → c.frame ≡ n → AreOnce n (told_in s) → AreEarlier (n + 1) (going_back c.frame c.time s.times s.backwards)
 passed_once n c s is are = subst (λ k. AreEarlier (n + 1) (going_back k c.time s.times s.backwards)) (sym is) (back_once n c.time s.times s.backwards are.backwards)
 
-aside_once : (n : ℕ) (c : Carried) (s : Noticed) → c.frame ≡ n → AreOnce n (told_in s) → AreEarlier (n + 1) (c.frame ∷ s.of_none)
-aside_once n c s is are = subst (λ k. AreEarlier (n + 1) (k ∷ s.of_none)) (sym is) (with_it n s.of_none are.of_none)
+aside_once : (n : ℕ) (c : Carried) (s : Noticed) → c.frame ≡ n → AreOnce n (told_in s) → AreEarlier (n + 1) (c.frame ∷ (told_in s).of_none)
+aside_once n c s is are = subst (λ k. AreEarlier (n + 1) (k ∷ (told_in s).of_none)) (sym is) (with_it n (told_in s).of_none are.of_none)
 
 placing_once : (place : Place) (n : ℕ) (event : EventState) (c : Carried) (s : Noticed) → c.frame ≡ n → AreOnce n (told_in s) → AreOnce (n + 1) (told_in (placing place event c s))
 placing_once (Opens x) n event c s is are = let now = all_later n (told_in s) are in

@@ -2,9 +2,10 @@
 use Rattle.std.proofs.Common.{◌≡◌, ◌≢◌, ◌≤◌, ◌+◌, ◌∷◌, ◌⊎◌, ◌↔◌, ℕ, suc, zero, Bool, true, false, cond, max, min, List, [], length, Option, Some, None, Result, Ok, Err, OnOk, IsErr, IfSome, option_map, inl, inr, refl, sym, ap, subst, ◌∙◌, arith}
 use Rattle.std.proofs.lemmas.Bool.{false≢true}
 use Rattle.std.specs.declared.net.ip_addr.IpAddr.{IpAddr}
-use Rattle.net_udp.specs.Recording.{EventState, IsFateOf, IsSameDatagram, IsSameFate, Step}
+use Rattle.net_udp.specs.Recording.{EventState, IsFateOf, IsSameDatagram, IsSameFate, Step, checksum_told}
 use Rattle.net_udp.specs.declared.fragments.outcome.Outcome.{Outcome}
 use Rattle.net_udp.specs.declared.fragments.outcome.Outcome.TheVariants as outcome
+use Rattle.net_udp.specs.declared.frames.unread.UnreadHeader.{UnreadHeader}
 use Rattle.net_udp.specs.declared.recording.fate.Datagram.{Datagram as Given}
 use Rattle.net_udp.specs.declared.recording.fate.Fate.TheVariants.{Datagram, Discarded, Left, Waits}
 use Rattle.net_udp.specs.declared.recording.fate.LeftOut.{LeftOut}
@@ -21,7 +22,7 @@ use Rattle.audit_recording.specs.Losses.Noted.Event.{Waits as Awaits}
 use Rattle.audit_recording.specs.Reasons.Clock.{HaveReached, IsClockAfter}
 use Rattle.audit_recording.specs.Session.Kept.{GivesNone, IsOneMore, ReadsOn}
 use Rattle.audit_recording.specs.declared.session.fault.ReadFault.{ReadFault}
-use Rattle.audit_recording.specs.Session.Noted.{AreHostsOf, AreNotesOf, Noticed, finding, is_none, leaving, losing, may_be_datagram, noting, sharers_of, unread_in}
+use Rattle.audit_recording.specs.Session.Noted.{AreHostsOf, IsHeaderOf, AreNotesOf, Noticed, finding, is_none, leaving, losing, may_be_datagram, noting, sharers_of, unread_in}
 use Rattle.audit_recording.specs.Session.Recording.{AddsOne, BeginsToWait, IsCarriedBy, IsNoticedOf, Leaves, letting_go, placing, reached_by}
 use Rattle.audit_recording.specs.declared.session.clock.Clock.{Clock}
 use Rattle.audit_recording.specs.declared.session.notes.Notes.{Notes}
@@ -75,7 +76,7 @@ leaving_last true one other n is also = is
 leaving_last false one other n is also = also
 
 leaves_last : (b : Bool) (why : LeftOut) (event : EventState) (s t : Noticed) (n : ℕ) → event.frame.number ≡ n → s.last ≤ n → Leaves b why event s t → t.last ≤ n
-leaves_last true why event s t n number low (hosts, are, is) = let at = ap (λ (x : Noticed). x.last) is in omega arith
+leaves_last true why event s t n number low (hosts, header, are, has, is) = let at = ap (λ (x : Noticed). x.last) is in omega arith
 leaves_last false why event s t n number low is =
     subst (λ (x : Noticed). x.last ≤ n) (sym is) (leaving_last (is_none why) (finding (reached_by s.times) (sharers_of event) s) s n low low)
 
@@ -142,6 +143,7 @@ module _ (event : EventState) where
     time = is.time;
     is_doubtful = is.is_doubtful;
     has_error = is.has_error;
+    checksum = is.checksum;
     taken = record {
       time = is.taken.time;
       source = is.taken.source ∙ (λ i. end_of (same.source i) (same.source_port i));
@@ -187,7 +189,7 @@ abbrev pub bare : EventState → EventState
 bare event = record event { brought = record event.brought { ousted = [] } }
 
 pub carried_bare : (event : EventState) (given : Given) (older : List Carried) (c : Carried) → IsCarriedBy event given older c → IsCarriedBy (bare event) given older c
-carried_bare event given older c is = record { frame = is.frame; time = is.time; is_doubtful = is.is_doubtful; has_error = is.has_error; taken = is.taken }
+carried_bare event given older c is = record { frame = is.frame; time = is.time; is_doubtful = is.is_doubtful; has_error = is.has_error; checksum = is.checksum; taken = is.taken }
 
 leaves_bare : (b : Bool) (why : LeftOut) (event : EventState) (s t : Noticed) → Leaves b why (bare event) s t → Leaves b why event s t
 leaves_bare true why event s t is = is
@@ -204,14 +206,14 @@ adds_bare named event (Discarded given) older s t none is adds = adds
 
 pub left_told : (n : Notes) (why : LeftOut) (event : EventState) (s : Noticed) (reached : ℕ) → reached ≡ reached_by s.times
     → (may_be_datagram why ≡ false → AreNotesOf n (leaving reached why event s))
-    → (may_be_datagram why ≡ true → (hosts : Option (IpAddr × IpAddr)) × AreHostsOf event hosts × AreNotesOf n (losing reached event hosts s))
+    → (may_be_datagram why ≡ true → (hosts : Option (IpAddr × IpAddr)) × (header : Option UnreadHeader) × AreHostsOf event hosts × IsHeaderOf event header × AreNotesOf n (losing reached event hosts header s))
     → (t : Noticed) × Leaves (may_be_datagram why) why event s t × AreNotesOf n t
 left_told n why event s reached at none lost = by (may_be_datagram why) refl where
   by : (b : Bool) → may_be_datagram why ≡ b → (t : Noticed) × Leaves b why event s t × AreNotesOf n t
   by true is = let told = lost is in (
-    losing (reached_by s.times) event told.0 s,
-    (told.0, told.1, refl),
-    subst (λ r. AreNotesOf n (losing r event told.0 s)) at told.2,
+    losing (reached_by s.times) event told.0 told.1 s,
+    (told.0, told.1, told.2, told.3, refl),
+    subst (λ r. AreNotesOf n (losing r event told.0 told.1 s)) at told.4,
   )
   by false is = (leaving (reached_by s.times) why event s, refl, subst (λ r. AreNotesOf n (leaving r why event s)) at (none is))
 
@@ -265,10 +267,10 @@ errs_so Stand history carried s (Err fault) is = tt
 
 -- a datagram in its frame
 abbrev pub carry : EventState → Recorded → Carried
-carry event d = record { frame = event.frame.number; time = event.frame.parts.time; is_doubtful = is_doubtful event.likeness; has_error = event.frame.parts.damaged; datagram = d }
+carry event d = record { frame = event.frame.number; time = event.frame.parts.time; is_doubtful = is_doubtful event.likeness; has_error = event.frame.parts.damaged; checksum = checksum_told event.sent; datagram = d }
 
 pub is_carried : (event : EventState) (given : Given) (older : List Carried) (d : Recorded) → IsTaken given (time_by event.frame.parts.time (datagrams_of older)) d → IsCarriedBy event given older (carry event d)
-is_carried event given older d taken = record { frame = refl; time = refl; is_doubtful = refl; has_error = refl; taken = taken }
+is_carried event given older d taken = record { frame = refl; time = refl; is_doubtful = refl; has_error = refl; checksum = refl; taken = taken }
 
 pub always : {T E P : Type 0} (r : Result T E) → P → OnOk r P
 always (Ok x) is = is

@@ -44,6 +44,8 @@ stays_discarding t frame judging x named carried was = record {
     twice = was.own.twice;
     copied_from = was.own.copied_from;
     damaged = was.own.damaged;
+    from_client = was.own.from_client;
+    to_client = was.own.to_client;
     closing = was.own.closing;
     blame = was.own.blame;
   };
@@ -66,6 +68,8 @@ own_discarding t frame judging x named carried was = record {
   twice = was.twice;
   copied_from = was.copied_from;
   damaged = was.damaged;
+  from_client = was.from_client;
+  to_client = was.to_client;
   closing = was.closing;
   blame = was.blame;
 }
@@ -281,8 +285,8 @@ is_kept judging named out carried n x (Some t) is once kept = refl
 module _ (trails : BTreeMap ℕ Trail) (judging : Judging) (named out : List ℕ) (carried : List Carried) (k : ℕ) (t : Trail) (was : get nat_cmp trails k ≡ Some t)
     (least : IsLowerBound nat_cmp trails k) (kept : AreTrailsKept trails judging named out carried) (x : Transfer) (is : opened x.number (whole_of named carried) ≡ Some x) (once : is_among x.number out ≡ false)
     (first : x.number ≤ k) where
-  same_number_first : k ≡ x.number
-  same_number_first =
+  pub first_number : k ≡ x.number
+  first_number =
       let down : k ≤ x.number = at_most k x.number (least x.number (is_kept judging named out carried x.number x (get nat_cmp trails x.number) is once (kept x.number))) in
       let up : x.number ≤ k = first in
       omega arith
@@ -290,14 +294,14 @@ module _ (trails : BTreeMap ℕ Trail) (judging : Judging) (named out : List ℕ
   same_transfer_first : t.transfer ≡ x
   same_transfer_first =
       let held = trail_here trails judging named out carried k t was kept in
-      let both : Some t.transfer ≡ Some x = sym held.0 ∙ ap (λ n. opened n (whole_of named carried)) same_number_first ∙ is in
+      let both : Some t.transfer ≡ Some x = sym held.0 ∙ ap (λ n. opened n (whole_of named carried)) first_number ∙ is in
       cc
 
   pub first_trail : IsTrailAfter t judging x named carried
   first_trail = subst (λ (y : Transfer). IsTrailAfter t judging y named carried) same_transfer_first (trail_here trails judging named out carried k t was kept).2
 
   pub others_kept : (new : BTreeMap ℕ Trail) → ((n : ℕ) → get nat_cmp new n ≡ cond (is_eq (nat_cmp k n)) None (get nat_cmp trails n)) → AreTrailsKept new judging named (x.number ∷ out) carried
-  others_kept new updates = subst (λ n. AreTrailsKept new judging named (n ∷ out) carried) same_number_first (trails_less trails new judging named out carried k updates kept)
+  others_kept new updates = subst (λ n. AreTrailsKept new judging named (n ∷ out) carried) first_number (trails_less trails new judging named out carried k updates kept)
 
 -- ---- what is known beside what was told
 

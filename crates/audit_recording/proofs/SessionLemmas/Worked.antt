@@ -20,6 +20,7 @@ use Rattle.net_udp.specs.declared.frames.fault.FrameFault.TheVariants as frame
 use Rattle.net_udp.specs.declared.recording.fate.LeftOut.TheVariants.{Copy, Empty, Frame}
 use Rattle.net_udp.specs.declared.recording.likeness.Likeness.TheVariants as likeness
 use Rattle.net_udp.proofs.FramesLemmas.Tunnels.{plainly, spells_ipv4}
+use Rattle.net_udp.proofs.FramesLemmas.UnreadOnce.{read_has_none}
 use Rattle.net_udp.proofs.RecordingLemmas.Examples.{last_spells}
 use Rattle.tftp_packet.specs.{Message, Spells}
 use Rattle.tftp_packet.specs.Spelling.{octet_read, side_opcode}
@@ -32,8 +33,10 @@ use Rattle.audit_recording.specs.Audit.Passed.{IsRequest, end_of}
 use Rattle.audit_recording.specs.Blame.Frames.{framed_after}
 use Rattle.audit_recording.specs.Losses.Noted.Event.{Asks, Finds, Loses, Waits as Awaits}
 use Rattle.audit_recording.specs.Reasons.Spoilt.{checked}
+use Rattle.audit_recording.specs.Endings.Worked.{asked_first}
+use Rattle.audit_recording.specs.Session.Beside.Mark.{Begins, Joins}
 use Rattle.audit_recording.specs.Session.Noted.{Noticed, finding, nothing_noticed}
-use Rattle.audit_recording.specs.Session.Recording.{IsNoticedOf, asking, passing_at, setting_aside}
+use Rattle.audit_recording.specs.Session.Recording.{IsNoticedOf, asking, marking, passing_at, setting_aside, stray_in}
 use Rattle.audit_recording.specs.Session.Worked.{ack_carried, at_second, frame_at, request, request_bytes, request_carried, request_packet, request_udp, step_of, told_noticed, told_steps, unread_at, worked_noticed, worked_steps}
 
 -- ---- what the frames are
@@ -134,8 +137,10 @@ module _ (content : Made) (frames : Vec ℕ Global) (asked acked : Given) (is : 
     times = 2000000000 ∷ [];
     copies = [];
     other_links = [];
-    of_none = [];
     backwards = [];
+    strays = [];
+    hidden = [];
+    beside = Joins 0 2000000000 ∷ Begins asked_first 2000000000 ∷ [];
   }
 
   asked_noticed : IsNoticedOf [] (second ∷ first ∷ []) (request_carried ∷ []) has_asked
@@ -154,6 +159,7 @@ module _ (content : Made) (frames : Vec ℕ Global) (asked acked : Given) (is : 
         time = refl;
         is_doubtful = refl;
         has_error = refl;
+        checksum = refl;
         taken = record {
           time = refl;
           source = sym (λ i. end_of (asks.source i) (asks.source_port i));
@@ -176,8 +182,10 @@ module _ (content : Made) (frames : Vec ℕ Global) (asked acked : Given) (is : 
     times = 3000000000 ∷ 2000000000 ∷ [];
     copies = [];
     other_links = [];
-    of_none = [];
     backwards = [];
+    strays = [];
+    hidden = [];
+    beside = Joins 0 3000000000 ∷ Joins 0 2000000000 ∷ Begins asked_first 2000000000 ∷ [];
   }
 
   acked_noticed : IsNoticedOf [] (third ∷ second ∷ first ∷ []) (ack_carried ∷ request_carried ∷ []) has_acked
@@ -196,6 +204,7 @@ module _ (content : Made) (frames : Vec ℕ Global) (asked acked : Given) (is : 
         time = refl;
         is_doubtful = refl;
         has_error = refl;
+        checksum = refl;
         taken = record {
           time = refl;
           source = sym (λ i. end_of (acks.source i) (acks.source_port i));
@@ -205,7 +214,7 @@ module _ (content : Made) (frames : Vec ℕ Global) (asked acked : Given) (is : 
         };
       },
       refl,
-      sym (ap (λ (l : List ℕ). setting_aside at 3 (asking at 3 (passing_at at Right ack_carried (finding 0 l has_asked)))) of),
+      sym (ap (λ (l : List ℕ). setting_aside at (stray_in ack_carried) (asking at 3 (marking at ack_carried (passing_at at Right ack_carried (finding 0 l has_asked))))) of),
     ),
   ) where
     at : Place
@@ -220,7 +229,7 @@ module _ (content : Made) (frames : Vec ℕ Global) (asked acked : Given) (is : 
     acked_noticed,
     is_event 4 fourth (third ∷ second ∷ first ∷ []) refl,
     refl,
-    (refl, (Some (host 7, host 1), between last_bytes (omega arith, refl, (refl, refl)) (omega arith, refl, omega arith, omega arith) refl refl refl, refl)),
+    (refl, (Some (host 7, host 1), None, between last_bytes (omega arith, refl, (refl, refl)) (omega arith, refl, omega arith, omega arith) refl refl refl, λ u has. read_has_none 228 last_bytes u last_part has last_spells, refl)),
   )
 
 -- ---- three frames of which something is told
@@ -256,7 +265,7 @@ one_lost = (
   (refl, refl),
   is_event 1 lost_step [] refl,
   refl,
-  (refl, (Some (host 7, host 1), between last_bytes (omega arith, refl, (refl, refl)) (omega arith, refl, omega arith, omega arith) refl refl refl, refl)),
+  (refl, (Some (host 7, host 1), None, between last_bytes (omega arith, refl, (refl, refl)) (omega arith, refl, omega arith, omega arith) refl refl refl, λ u has. read_has_none 228 last_bytes u last_part has last_spells, refl)),
 )
 
 one_copied : IsNoticedOf [] (copy_step ∷ lost_step ∷ []) [] (record lost_one { copies = 2 ∷ [] })

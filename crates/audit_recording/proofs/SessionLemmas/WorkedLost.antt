@@ -1,13 +1,14 @@
 -- What is noticed of a packet in two fragments that overlap.
-use Rattle.std.proofs.Common.{◌≡◌, ◌+◌, ◌∷◌, ℕ, List, [], length, inr, Some, Vec, Global, refl, sym, ap, arith}
-use Rattle.net_udp.specs.Frames.{IsBetween, Reached}
+use Rattle.std.proofs.Common.{◌≡◌, ◌+◌, ◌∷◌, ℕ, List, [], length, inr, None, Some, Vec, Global, refl, sym, ap, arith}
+use Rattle.net_udp.specs.Frames.{IsBetween, Reached, SpellsFrame}
 use Rattle.net_udp.specs.declared.frames.link.LinkType.TheVariants.{RawIpv6}
 use Rattle.net_udp.specs.declared.frames.link.Network.TheVariants.{Ipv6}
 use Rattle.net_udp.specs.declared.frames.packet.Direction.TheVariants.{Unknown}
 use Rattle.net_udp.specs.Recording.{EventState, Step, across_bytes, across_part, across_step, begun_bytes, begun_named, begun_part, begun_step, data_key, last_named}
 use Rattle.net_udp.specs.declared.recording.fate.Fate.TheVariants.{Left, Waits}
 use Rattle.net_udp.specs.declared.recording.fate.LeftOut.TheVariants.{Apart}
-use Rattle.net_udp.proofs.FramesLemmas.Tunnels.{plainly}
+use Rattle.net_udp.proofs.FramesLemmas.Tunnels.{plainly, spells}
+use Rattle.net_udp.proofs.FramesLemmas.UnreadOnce.{read_has_none}
 use Rattle.audit_recording.specs.Audit.{IsOfEvent}
 use Rattle.audit_recording.specs.Losses.Noted.Event.{Loses}
 use Rattle.audit_recording.specs.Session.Noted.{giving_up, nothing_noticed, noting, others}
@@ -50,6 +51,11 @@ across_between = record {
   to = refl;
 }
 
+-- ---- no header that is not read
+
+across_spells : SpellsFrame 229 across_bytes across_part
+across_spells = spells 229 RawIpv6 across_bytes Unknown Ipv6 across_bytes across_reached refl (omega arith, refl, (refl, refl)) (omega arith, refl) (omega arith, omega arith) (0, inr (refl, omega arith, refl, refl, refl)) refl refl
+
 -- ---- frame by frame
 
 pub begun_is : IsNoticedOf [] (begun_step ∷ []) [] begun_noticed
@@ -73,5 +79,14 @@ torn_is frames of = (
   begun_is,
   is_event 2 (across_step frames) (begun_step ∷ []) refl,
   refl,
-  (refl, (Some (data_key.source, data_key.target), across_between, sym (ap (λ (l : List ℕ). noting (Loses (torn_at 2)) 2 (giving_up (others 2 l) begun_noticed)) of))),
+  (
+    refl,
+    (
+      Some (data_key.source, data_key.target),
+      None,
+      across_between,
+      λ u has. read_has_none 229 across_bytes u across_part has across_spells,
+      sym (ap (λ (l : List ℕ). noting (Loses (torn_at 2)) 2 (giving_up (others 2 l) begun_noticed)) of),
+    ),
+  ),
 )

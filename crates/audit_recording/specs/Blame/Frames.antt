@@ -2,6 +2,7 @@
 -- transfer is known by its number.
 use Rattle.std.specs.Prelude.{ℕ, ◌-◌, Bool, List, [], ◌∷◌, filter, map, reverse, Option}
 use Rattle.std.specs.List.{slice_get}
+use Rattle.net_udp.specs.declared.frames.checksum.Checksum.{Checksum}
 use Rattle.audit_flows.specs.Lines.{Placed, Recorded, is_of}
 use Rattle.audit_flows.specs.Transfers.{is_at_server, placed as place_all}
 use Rattle.audit_recording.specs.Audit.Audited.{placed_after}
@@ -9,12 +10,13 @@ use Rattle.audit_recording.specs.declared.rows.row.Point.{Point}
 use Rattle.audit_recording.specs.declared.rows.row.Point.TheVariants.{Client, Server, Between}
 
 -- A datagram, the frame with which it was there whole, from 1, the time that this tells, in nanoseconds, whether it may be a copy
--- of the one before it, and whether it was received with an error of its link.
+-- of the one before it, whether it was received with an error of its link, and what its checksums told.
 pub record Carried : Type 0 where
   pub frame : ℕ
   pub time : Option ℕ
   pub is_doubtful : Bool
   pub has_error : Bool
+  pub checksum : Checksum
   pub datagram : Recorded
 
 abbrev pub datagrams_of : List Carried → List Recorded

@@ -1,6 +1,6 @@
 -- What is kept of a transfer beside its judges, and of which datagrams. Lists have the newest first; `whole` are the datagrams of
 -- a recording with their places, `frames` the same in their frames.
-use Rattle.std.specs.Prelude.{◌≡◌, ◌⊎◌, ◌<◌, ◌+◌, ◌^◌, ◌-◌, ◌&&◌, ◌||◌, ◌++◌, ℕ, Bool, true, List, [], ◌∷◌, filter, length, map, max, min, reverse, unwrap_or, IfSome, Option, Some, None, option_map}
+use Rattle.std.specs.Prelude.{◌≡◌, ◌⊎◌, ◌<◌, ◌+◌, ◌^◌, ◌-◌, ◌&&◌, ◌||◌, ◌++◌, ℕ, Bool, true, List, [], ◌∷◌, filter, length, map, max, min, reverse, unwrap_or, IfSome, Option, Some, None, option_map, not, if◌then◌else◌}
 use Rattle.std.specs.List.{list_any}
 use Rattle.law_end.specs.{Rule}
 use Rattle.tftp_packet.specs.{Rollover}
@@ -14,6 +14,7 @@ use Rattle.audit_recording.specs.declared.blame.facts.Found.{Found}
 use Rattle.audit_recording.specs.declared.blame.facts.ViewFacts.{ViewFacts}
 use Rattle.audit_recording.specs.declared.blame.passed.Passed.{Passed}
 use Rattle.audit_recording.specs.declared.blame.passing.Passing.{Passing}
+use Rattle.audit_recording.specs.declared.blame.spoilt.Spoilt.{Spoilt}
 use Rattle.audit_recording.specs.declared.blame.told.Told.{Told}
 use Rattle.audit_recording.specs.declared.blame.told.Told.TheVariants.{Accepted, Nothing, Refused}
 use Rattle.audit_recording.specs.declared.blame.trail.Trail.{Trail}
@@ -24,7 +25,9 @@ use Rattle.audit_recording.specs.Endings.Kept.{IsClosingOf}
 use Rattle.audit_recording.specs.Judges.{points_of, rollover_of}
 use Rattle.audit_recording.specs.Blame.Frames.{Carried, Framed, framed, is_seen, numbered, seen_of, view_of, whole_of}
 use Rattle.audit_recording.specs.Blame.Named.{named_in}
+use Rattle.audit_recording.specs.Blame.Spoilt.{comes_to, spoilt_from, spoilt_to}
 use Rattle.audit_recording.specs.Blame.Facts.{IsRefusedAt, blamed_of, has_gone_on, is_for_server}
+use Rattle.audit_recording.specs.Reasons.Spoilt.{checked, earlier_or, spoilt_by}
 use Rattle.audit_recording.specs.Reasons.Twice.{IsTwiceAfter, Sent, sent}
 
 -- ---- what a judge tells
@@ -138,9 +141,6 @@ abbrev pub last_time_in : List Framed → ℕ
 last_time_in [] = 0
 last_time_in (f ∷ older) = max (last_time_in older) (unwrap_or f.carried.time 0)
 
-abbrev pub comes_to : Transfer → Framed → Bool
-comes_to x f = same_endpoint f.placed.datagram.target x.client
-
 -- about the transfer, and its frame may be a copy
 abbrev pub is_copied : ℕ → Framed → Bool
 is_copied n f = is_about n f.placed && f.carried.is_doubtful
@@ -148,6 +148,10 @@ is_copied n f = is_about n f.placed && f.carried.is_doubtful
 -- about the transfer, and received with an error
 abbrev pub is_damaged : ℕ → Framed → Bool
 is_damaged n f = is_about n f.placed && f.carried.has_error
+
+-- the first spoilt datagram of a way, with this one, if it went that way
+abbrev pub with_spoilt : Bool → Passing → Option Spoilt → Option Spoilt
+with_spoilt is_that_way p known = if is_that_way then earlier_or known (spoilt_by (checked p.frame p.source.address p.is_intact)) else known
 
 -- all but who was answered and what is spoilt is as before
 pub record IsSameBut (old new : Trail) : Type 0 where
@@ -164,6 +168,7 @@ pub record IsSameBut (old new : Trail) : Type 0 where
   pub copied_from : new.copied_from ≡ old.copied_from
   pub damaged : new.damaged ≡ old.damaged
   pub twice : new.twice ≡ old.twice
+  pub discarded : new.discarded ≡ old.discarded
   pub closing : new.closing ≡ old.closing
   pub blame : new.blame ≡ old.blame
 
@@ -182,6 +187,9 @@ pub record IsNoted (old new : Trail) (passing : Passing) : Type 0 where
   pub left_out : new.left_out ≡ old.left_out
   pub copied_from : new.copied_from ≡ old.copied_from
   pub damaged : new.damaged ≡ old.damaged
+  pub discarded : new.discarded ≡ old.discarded
+  pub from_client : new.from_client ≡ with_spoilt (not (same_endpoint passing.target old.transfer.client)) passing old.from_client
+  pub to_client : new.to_client ≡ with_spoilt (same_endpoint passing.target old.transfer.client) passing old.to_client
   pub closing : new.closing ≡ old.closing
   pub blame : new.blame ≡ old.blame
 
@@ -204,6 +212,8 @@ pub record IsTrailOf (t : Trail) (judging : Judging) (x : Transfer) (named : Lis
   pub twice : IsTwiceAfter t.twice (map sent_of (view_of Client x.number named carried))
   pub copied_from : t.copied_from ≡ first_frame (is_copied x.number) (framed named carried)
   pub damaged : t.damaged ≡ first_frame (is_damaged x.number) (framed named carried)
+  pub from_client : t.from_client ≡ spoilt_from x (view_of Client x.number named carried)
+  pub to_client : t.to_client ≡ spoilt_to x (view_of Client x.number named carried)
   pub closing : IsClosingOf t.closing x (view_of Client x.number named carried)
   pub blame : IsBlameOf t.blame judging x (whole_of named carried) (framed named carried)
 

@@ -5,6 +5,7 @@ use Rattle.net_udp.specs.declared.recording.fate.Datagram.{Datagram as Given}
 use Rattle.net_udp.specs.declared.recording.fate.Fate.TheVariants.{Datagram}
 use Rattle.audit_recording.specs.Audit.Audited.{AuditsAfter, RecordingAudit}
 use Rattle.audit_recording.specs.Blame.Frames.{Carried, datagrams_of}
+use Rattle.audit_recording.specs.Session.Beside.{AreMarksKept}
 use Rattle.audit_recording.specs.Session.Noted.{AreNotesOf, Noticed}
 use Rattle.audit_recording.specs.Session.Recording.{IsNoticedOf}
 use Rattle.audit_recording.specs.Session.Texts.{AreTextsKept}
@@ -13,13 +14,15 @@ use Rattle.audit_recording.specs.declared.session.fault.ReadFault.{ReadFault}
 use Rattle.audit_recording.specs.declared.session.session.Session.{Session}
 
 -- It is the session of these datagrams, which came by these frames, whatever was noticed: the judges were given the datagrams, the notes are of
--- what is said to be noticed, each transfer that was not handed out has its trail, and each whose text is wanted has its text.
+-- what is said to be noticed, each transfer that was not handed out has its trail, with what may have been of it, and each whose text is wanted
+-- has its text.
 -- `named` are the service ports that were named, `out` the numbers of the transfers that were handed out.
 pub record IsSessionOf (session : Session) (named out : List ℕ) (history : List Step) (carried : List Carried) (s : Noticed) : Type 0 where
   pub audit : AuditsAfter session.audit named out history (datagrams_of carried)
   pub notes : AreNotesOf session.notes s
   pub trails : AreTrailsKept session.trails session.audit.judge.judging named out carried
   pub texts : AreTextsKept session.kept named carried
+  pub beside : AreMarksKept session.unplaced session.trails out s.beside
 
 -- By these frames these datagrams came, and this was noticed; it is their session.
 pub record IsSessionAfter (session : Session) (named out : List ℕ) (history : List Step) (carried : List Carried) (s : Noticed) : Type 0 where

@@ -7,12 +7,14 @@ use Rattle.net_pcap.specs.declared.fault.FaultKind.TheVariants.{Bad, Memory, Not
 use Rattle.net_udp.specs.Frames.Unread.{header_name}
 use Rattle.net_udp.specs.declared.frames.unread.UnreadHeader.{UnreadHeader}
 use Rattle.audit_flows.specs.{Address, Endpoint, V4, V6}
+use Rattle.audit_recording.specs.Session.Hidden.{Hidden, frames_behind, headers_of}
+use Rattle.audit_recording.specs.Session.Noted.{Noticed, told_in}
+use Rattle.audit_recording.specs.Session.Strays.{Stray, begun_pairs}
 use Rattle.audit_recording.specs.Session.Told.{Told, count_of, first_five}
 use Rattle.audit_recording.specs.declared.session.begun.Begun.{Begun}
 use Rattle.audit_recording.specs.declared.session.begun.Pair.{Pair}
 use Rattle.audit_recording.specs.declared.session.behind.Behind.{Behind}
 use Rattle.audit_recording.specs.declared.session.behind.Kind.{Kind}
-use Rattle.audit_recording.specs.declared.session.notes.Notes.{Notes}
 
 -- ---- numbers
 
@@ -83,6 +85,10 @@ pair_lines p = if nat_lt p.count 3 then [] else pair_line p ∷ []
 abbrev pub begun_lines : Begun → List (List ℕ)
 begun_lines b = flat_map pair_lines b.pairs.items
 
+-- of all that is of no transfer, the newest first
+abbrev pub begun_told : List Stray → List (List ℕ)
+begun_told strays = flat_map pair_lines (begun_pairs strays)
+
 -- ---- behind a header that is not read
 
 abbrev pub behind_words : UnreadHeader → List ℕ
@@ -93,6 +99,10 @@ kind_lines k = lines_by k.frames.count k.frames.first.items (behind_words k.head
 
 abbrev pub behind_lines : Behind → List (List ℕ)
 behind_lines b = flat_map kind_lines b.kinds.items
+
+-- of all frames behind such headers, the newest first: a line for each header, in the order of their first frames
+abbrev pub behind_told : List Hidden → List (List ℕ)
+behind_told hidden = flat_map (λ header. lines_of (frames_behind header hidden) (behind_words header)) (headers_of hidden)
 
 -- ---- why datagrams may be missing
 
@@ -133,19 +143,20 @@ left_out_lines t =
     ++ lines_of t.other_links (codes "of another link type"))
 
 -- what is of no transfer, or out of order
-abbrev pub aside_lines : Told → Begun → List (List ℕ)
-aside_lines t begun =
-    lines_of t.of_none (codes "of UDP of no transfer")
-    ++ (begun_lines begun
-    ++ lines_of t.backwards (codes "older than the one before; reordercap puts them in order"))
+abbrev pub aside_lines : Noticed → List (List ℕ)
+aside_lines s =
+    lines_of (told_in s).of_none (codes "of UDP of no transfer")
+    ++ (begun_told s.strays
+    ++ lines_of s.backwards (codes "older than the one before; reordercap puts them in order"))
 
 -- what was lost
-abbrev pub lost_lines : Told → Behind → ℕ → List (List ℕ)
-lost_lines t behind dropped =
-    lines_of t.lost (codes "not there whole, so that datagrams may be missing")
-    ++ (behind_lines behind
+abbrev pub lost_lines : Noticed → ℕ → List (List ℕ)
+lost_lines s dropped =
+    lines_of (told_in s).lost (codes "not there whole, so that datagrams may be missing")
+    ++ (behind_told s.hidden
     ++ dropped_lines dropped)
 
--- all that is told, where these frames are to be told of: each kind once, in this order
-abbrev pub lines_told : Told → Notes → List (List ℕ)
-lines_told t n = left_out_lines t ++ (aside_lines t n.begun ++ (lost_lines t n.behind n.dropped ++ fault_lines n.fault))
+-- All that is told, where this was noticed of the recording, its recorder lost so many packets, and its reading stopped at this fault, or at
+-- none: each kind once, in this order.
+abbrev pub lines_told : Noticed → ℕ → Option PcapFault → List (List ℕ)
+lines_told s dropped fault = left_out_lines (told_in s) ++ (aside_lines s ++ (lost_lines s dropped ++ fault_lines fault))

@@ -1,12 +1,13 @@
 -- What is noted of a recording, and what is kept of it. Lists have the newest first.
-use Rattle.std.specs.Prelude.{◌≤◌, ◌++◌, ◌==◌, not, max, ℕ, Bool, true, false, List, [], ◌∷◌, Option, Some, None, MatchOption, filter, map, nat_lt, unwrap_or, if◌then◌else◌}
+use Rattle.std.specs.Prelude.{◌≡◌, ◌≤◌, ◌++◌, ◌==◌, not, max, ℕ, Bool, true, false, List, [], ◌∷◌, Option, Some, None, MatchOption, filter, map, nat_lt, unwrap_or, if◌then◌else◌}
 use Rattle.std.specs.declared.net.ip_addr.IpAddr.{IpAddr}
 use Rattle.net_udp.specs.Fragments.{Sets}
-use Rattle.net_udp.specs.Frames.{IsBetween}
+use Rattle.net_udp.specs.Frames.{HasUnread, IsBetween}
 use Rattle.net_udp.specs.Recording.{EventState}
 use Rattle.net_udp.specs.Recording.Fates.{sharers}
 use Rattle.net_udp.specs.declared.frames.fault.FrameFault.TheVariants as frame
 use Rattle.net_udp.specs.declared.frames.fault.UdpFault.TheVariants as udp
+use Rattle.net_udp.specs.declared.frames.unread.UnreadHeader.{UnreadHeader}
 use Rattle.net_udp.specs.declared.recording.fate.LeftOut.{LeftOut}
 use Rattle.net_udp.specs.declared.recording.fate.LeftOut.TheVariants.{Copy, Frame, Udp}
 use Rattle.audit_recording.specs.declared.blame.passing.Passing.{Passing}
@@ -18,14 +19,19 @@ use Rattle.audit_recording.specs.Losses.Noted.Event.{Asks, Finds, GivesUp, Loses
 use Rattle.audit_recording.specs.Losses.Kept.{AreLosses}
 use Rattle.audit_recording.specs.Reasons.Clock.{IsClockAfter, last_of}
 use Rattle.audit_recording.specs.Reasons.Spoilt.{Checked, checked}
+use Rattle.audit_recording.specs.Session.Beside.{Mark}
+use Rattle.audit_recording.specs.Session.Beside.Mark.{Discards}
+use Rattle.audit_recording.specs.Session.Hidden.{AreBehindOf, Hidden, hiding}
 use Rattle.audit_recording.specs.Session.Intact.{AreIntactAfter, Gone}
+use Rattle.audit_recording.specs.Session.Strays.{AreBegunOf, Stray, asked_ports, stray_frames}
 use Rattle.audit_recording.specs.Session.Told.{AreKindsOf, Told}
 
 -- ---- what was noted
 
 -- The number of the newest frame that was noted as one that asks, waits or is lost; what befell those that are not there whole; the
--- datagrams of transfers, with what their checksums tell; those that their hosts discarded; and the times of the former. And the frames
--- that were left out as copies, those of another link type, those of datagrams of no transfer, and those that are older than the one before.
+-- datagrams of transfers, with what their checksums tell; those that their hosts discarded; and the times of the former. The frames that were
+-- left out as copies, those of another link type, and those that are older than the one before. The datagrams of no transfer; and the frames
+-- that are lost behind a header that is not read. Then what is noted beside the transfers.
 pub record Noticed : Type 0 where
   pub last : ℕ
   pub events : List Event
@@ -34,11 +40,13 @@ pub record Noticed : Type 0 where
   pub times : List ℕ
   pub copies : List ℕ
   pub other_links : List ℕ
-  pub of_none : List ℕ
   pub backwards : List ℕ
+  pub strays : List Stray
+  pub hidden : List Hidden
+  pub beside : List Mark
 
 abbrev pub nothing_noticed : Noticed
-nothing_noticed = record { last = 0; events = []; seen = []; gone = []; times = []; copies = []; other_links = []; of_none = []; backwards = [] }
+nothing_noticed = record { last = 0; events = []; seen = []; gone = []; times = []; copies = []; other_links = []; backwards = []; strays = []; hidden = []; beside = [] }
 
 -- the frames that are not there whole: those that are lost, and those that waited in vain
 abbrev pub lost_frames : List Event → List ℕ
@@ -55,7 +63,7 @@ told_in s = record {
   copies = s.copies;
   discarded = map (λ g. g.frame) s.gone;
   other_links = s.other_links;
-  of_none = s.of_none;
+  of_none = stray_frames s.strays;
   backwards = s.backwards;
   lost = lost_frames s.events;
 }
@@ -76,6 +84,9 @@ pub record AreNotesOf (n : Notes) (s : Noticed) : Type 0 where
   pub intact : AreIntactAfter n.intact s.seen s.gone
   pub clock : IsClockAfter n.clock s.times
   pub kinds : AreKindsOf n.kinds (told_in s)
+  pub behind : AreBehindOf n.behind s.hidden
+  pub begun : AreBegunOf n.begun s.strays
+  pub asked : n.asked.items ≡ asked_ports s.strays
 
 -- ---- one more
 
@@ -118,13 +129,13 @@ passing_by p s = record s {
   backwards = going_back p.frame p.time s.times s.backwards;
 }
 
--- a datagram in that frame is of no transfer
-abbrev pub leaving_aside : ℕ → Noticed → Noticed
-leaving_aside frame s = record s { of_none = frame ∷ s.of_none }
+-- a datagram is of no transfer
+abbrev pub leaving_aside : Stray → Noticed → Noticed
+leaving_aside d s = record s { strays = d ∷ s.strays }
 
 -- a datagram was discarded
 abbrev pub going : Gone → Noticed → Noticed
-going g s = record s { gone = g ∷ s.gone }
+going g s = record s { gone = g ∷ s.gone; beside = Discards g ∷ s.beside }
 
 -- ---- one frame
 
@@ -133,6 +144,12 @@ abbrev pub AreHostsOf : EventState → Option (IpAddr × IpAddr) → Type 0
 AreHostsOf event hosts = MatchOption hosts
     ((source target : IpAddr) → IsBetween event.frame.parts.link event.frame.parts.bytes source target → ⊥)
     (λ hosts. IsBetween event.frame.parts.link event.frame.parts.bytes hosts.0 hosts.1)
+
+-- the header at which the reading of the event's frame ends, where it has one
+abbrev pub IsHeaderOf : EventState → Option UnreadHeader → Type 0
+IsHeaderOf event header = MatchOption header
+    ((u : UnreadHeader) → HasUnread event.frame.parts.link event.frame.parts.bytes u → ⊥)
+    (λ u. HasUnread event.frame.parts.link event.frame.parts.bytes u)
 
 -- when a frame passed: at its time, or that of the datagram before it, but not before what the clock has reached
 abbrev pub moment_in : ℕ → EventState → List ℕ → ℕ
@@ -148,9 +165,12 @@ sharers_of event = sharers event.brought.outcome
 abbrev pub others : ℕ → List ℕ → List ℕ
 others frame frames = filter (λ n. not (n == frame)) frames
 
--- the frame of the event is lost, and with it those that share its fate
-abbrev pub losing : ℕ → EventState → Option (IpAddr × IpAddr) → Noticed → Noticed
-losing reached event hosts s = noting (Loses (unread_in reached event hosts s.times)) event.frame.number (giving_up (others event.frame.number (sharers_of event)) s)
+-- the frame of the event is lost, behind that header, if it has one; and with it those that share its fate
+abbrev pub losing : ℕ → EventState → Option (IpAddr × IpAddr) → Option UnreadHeader → Noticed → Noticed
+losing reached event hosts header s =
+    record (noting (Loses (unread_in reached event hosts s.times)) event.frame.number (giving_up (others event.frame.number (sharers_of event)) s)) {
+      hidden = hiding header event.frame.number s.hidden;
+    }
 
 -- ---- what is left out
 

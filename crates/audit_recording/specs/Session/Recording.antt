@@ -1,10 +1,10 @@
 -- What is noted of a recording, frame by frame. Lists have the newest first.
-use Rattle.std.specs.Prelude.{◌≡◌, ◌∷◌, ℕ, Bool, true, false, List, [], max, min, Option, Some, None, unwrap_or}
+use Rattle.std.specs.Prelude.{◌≡◌, ◌∷◌, ℕ, Bool, true, false, List, [], max, min, Option, unwrap_or}
 use Rattle.std.specs.declared.net.ip_addr.IpAddr.{IpAddr}
 use Rattle.net_udp.specs.Recording.Alike.{is_doubtful}
 use Rattle.net_udp.specs.Recording.{BroughtState, EventState, IsFateOf, Step, checksum_told}
 use Rattle.net_udp.specs.declared.frames.checksum.Checksum.{Checksum}
-use Rattle.net_udp.specs.declared.frames.checksum.Checksum.TheVariants.{Absent, Partial, Right, Wrong}
+use Rattle.net_udp.specs.declared.frames.unread.UnreadHeader.{UnreadHeader}
 use Rattle.net_udp.specs.declared.recording.fate.Datagram.{Datagram as Given}
 use Rattle.net_udp.specs.declared.recording.fate.Fate.TheVariants.{Datagram, Discarded, Left, Waits}
 use Rattle.net_udp.specs.declared.recording.fate.LeftOut.{LeftOut}
@@ -14,11 +14,15 @@ use Rattle.audit_flows.specs.{Place}
 use Rattle.audit_recording.specs.Audit.Audited.{IsOfEvent}
 use Rattle.audit_recording.specs.Audit.Passed.{IsTaken, end_of, time_by}
 use Rattle.audit_recording.specs.Blame.Frames.{Carried, datagrams_of, framed_after}
+use Rattle.audit_recording.specs.Blame.Spoilt.{intact_at}
 use Rattle.audit_recording.specs.Losses.Noted.Event.{Asks, Waits as Awaits}
 use Rattle.audit_recording.specs.Reasons.Clock.{last_of}
 use Rattle.audit_recording.specs.Reasons.Spoilt.{checked}
+use Rattle.audit_recording.specs.Session.Beside.{Mark}
+use Rattle.audit_recording.specs.Session.Beside.Mark.{Begins, Joins, Strays}
 use Rattle.audit_recording.specs.Session.Intact.{Gone}
-use Rattle.audit_recording.specs.Session.Noted.{AreHostsOf, Noticed, finding, frames_in, giving_up, going, going_back, leaving, leaving_aside, losing, may_be_datagram, nothing_noticed, noting, sharers_of, unread_in, with_time}
+use Rattle.audit_recording.specs.Session.Strays.{Stray}
+use Rattle.audit_recording.specs.Session.Noted.{AreHostsOf, IsHeaderOf, Noticed, finding, frames_in, giving_up, going, going_back, leaving, leaving_aside, losing, may_be_datagram, nothing_noticed, noting, sharers_of, unread_in, with_time}
 
 -- the latest moment that two in a row have reached, or 0
 abbrev pub reached_by : List ℕ → ℕ
@@ -34,23 +38,8 @@ pub record IsCarriedBy (event : EventState) (given : Given) (older : List Carrie
   pub time : c.time ≡ event.frame.parts.time
   pub is_doubtful : c.is_doubtful ≡ is_doubtful event.likeness
   pub has_error : c.has_error ≡ event.frame.parts.damaged
+  pub checksum : c.checksum ≡ checksum_told event.sent
   pub taken : IsTaken given (time_by event.frame.parts.time (datagrams_of older)) c.datagram
-
--- whether it is as it was sent, where its checksums are there
-abbrev pub intact_by : Checksum → Option Bool
-intact_by Right = Some true
-intact_by Partial = Some false
-intact_by Wrong = Some false
-intact_by Absent = None
-
--- the same of what passed at a transfer's client, or beside its server; of other datagrams nothing is told
-abbrev pub intact_at : Place → Checksum → Option Bool
-intact_at (Opens x) checksum = intact_by checksum
-intact_at (Repeats x) checksum = intact_by checksum
-intact_at (Talks x) checksum = intact_by checksum
-intact_at (Beside x) checksum = intact_by checksum
-intact_at (Apart c) checksum = None
-intact_at Nowhere checksum = None
 
 -- it has passed
 abbrev pub passing_at : Place → Checksum → Carried → Noticed → Noticed
@@ -65,19 +54,50 @@ abbrev pub asking : Place → ℕ → Noticed → Noticed
 asking (Opens x) frame s = noting (Asks x.client.address frame) frame s
 asking place frame s = s
 
--- where it is about no transfer, that is noted
-abbrev pub setting_aside : Place → ℕ → Noticed → Noticed
-setting_aside (Opens x) frame s = s
-setting_aside (Repeats x) frame s = s
-setting_aside (Talks x) frame s = s
-setting_aside (Beside x) frame s = s
-setting_aside (Apart c) frame s = leaving_aside frame s
-setting_aside Nowhere frame s = leaving_aside frame s
+-- where it opens a transfer, at this time
+abbrev pub beginning : Place → ℕ → List Mark → List Mark
+beginning (Opens x) time marks = Begins x time ∷ marks
+beginning place time marks = marks
 
--- its packet is there whole, it has passed, it may ask, and it may be of no transfer
+-- where it passes at a transfer's client
+abbrev pub joining : Place → Option ℕ → List Mark → List Mark
+joining (Opens x) time marks = Joins x.number (unwrap_or time 0) ∷ marks
+joining (Repeats x) time marks = Joins x.number (unwrap_or time 0) ∷ marks
+joining (Talks x) time marks = Joins x.number (unwrap_or time 0) ∷ marks
+joining place time marks = marks
+
+-- where it is of no client's line: its time is this, or that of the datagram before
+abbrev pub straying : Place → Carried → List ℕ → List Mark → List Mark
+straying Nowhere c times marks =
+    Strays c.datagram.source c.datagram.target c.datagram.payload (record { frame = c.frame; time = unwrap_or c.time (last_of times) })
+    (max (unwrap_or c.time (last_of times)) (reached_by times))
+    ∷ marks
+straying place c times marks = marks
+
+-- what it is beside the transfers, with the times up to its own
+abbrev pub marks_with : Place → Carried → List ℕ → List Mark → List Mark
+marks_with place c times marks = straying place c times (joining place c.time (beginning place (unwrap_or c.time (last_of times)) marks))
+
+abbrev pub marking : Place → Carried → Noticed → Noticed
+marking place c s = record s { beside = marks_with place c s.times s.beside }
+
+-- as one of no transfer
+abbrev pub stray_in : Carried → Stray
+stray_in c = record { source = c.datagram.source; target = c.datagram.target; payload = c.datagram.payload; frame = c.frame }
+
+-- where it is about no transfer, that is noted
+abbrev pub setting_aside : Place → Stray → Noticed → Noticed
+setting_aside (Opens x) d s = s
+setting_aside (Repeats x) d s = s
+setting_aside (Talks x) d s = s
+setting_aside (Beside x) d s = s
+setting_aside (Apart c) d s = leaving_aside d s
+setting_aside Nowhere d s = leaving_aside d s
+
+-- its packet is there whole, it has passed, it is noted beside the transfers, it may ask, and it may be of no transfer
 abbrev pub placing : Place → EventState → Carried → Noticed → Noticed
 placing place event c s =
-    setting_aside place c.frame (asking place c.frame (passing_at place (checksum_told event.sent) c (finding (reached_by s.times) (sharers_of event) s)))
+    setting_aside place (stray_in c) (asking place c.frame (marking place c (passing_at place (checksum_told event.sent) c (finding (reached_by s.times) (sharers_of event) s))))
 
 -- ---- what is no datagram of a transfer
 
@@ -92,7 +112,8 @@ gone_by event given times = record {
 
 -- what is left out: it is lost where it may have been a datagram
 abbrev pub Leaves : Bool → LeftOut → EventState → Noticed → Noticed → Type 0
-Leaves true why event s t = (hosts : Option (IpAddr × IpAddr)) × AreHostsOf event hosts × (t ≡ losing (reached_by s.times) event hosts s)
+Leaves true why event s t =
+    (hosts : Option (IpAddr × IpAddr)) × (header : Option UnreadHeader) × AreHostsOf event hosts × IsHeaderOf event header × (t ≡ losing (reached_by s.times) event hosts header s)
 Leaves false why event s t = t ≡ leaving (reached_by s.times) why event s
 
 -- a fragment waits for others

@@ -1,7 +1,7 @@
 -- A recording for a worked example. Host 192.0.2.7 sends from port 40000 to port 69 of 192.0.2.1: the first fragment of an acknowledgement,
 -- at second 1, a request for file `a`, at second 2, the last fragment of the acknowledgement, at second 3, and a fragment that brings no
 -- byte, of which no time is known.
-use Rattle.std.specs.Prelude.{◌*◌, ℕ, true, false, List, [], ◌∷◌, Option, Some, None}
+use Rattle.std.specs.Prelude.{◌*◌, ℕ, true, false, List, [], ◌∷◌, Option, Some, None, map}
 use Rattle.std.specs.Global.{Vec}
 use Rattle.net_pcap.specs.{FrameParts}
 use Rattle.net_udp.specs.Frames.{Packet, Udp, host, ipv4_packet}
@@ -11,6 +11,7 @@ use Rattle.net_udp.specs.declared.fragments.outcome.Outcome.{Outcome}
 use Rattle.net_udp.specs.declared.fragments.outcome.Outcome.TheVariants.{Empty, Waits, Whole}
 use Rattle.net_udp.specs.declared.frames.checksum.Checksum.TheVariants.{Right}
 use Rattle.net_udp.specs.declared.frames.packet.Direction.TheVariants.{Unknown}
+use Rattle.net_udp.specs.declared.frames.unread.UnreadHeader.TheVariants.{Esp, MacSec}
 use Rattle.net_udp.specs.declared.recording.likeness.Likeness.TheVariants.{Copy, New}
 use Rattle.net_udp.specs.declared.recording.sent.Sent.{Sent}
 use Rattle.audit_flows.specs.Transfers.{ack_of, client, read_of, service}
@@ -18,7 +19,12 @@ use Rattle.audit_recording.specs.Blame.Frames.{Carried}
 use Rattle.audit_recording.specs.Losses.Noted.{Unread}
 use Rattle.audit_recording.specs.Losses.Noted.Event.{Asks, Finds, GivesUp, Loses, Waits as Awaits}
 use Rattle.audit_recording.specs.Reasons.Spoilt.{checked}
+use Rattle.audit_recording.specs.Reasons.Unplaced.{worked_end}
+use Rattle.audit_recording.specs.Endings.Worked.{asked_first}
+use Rattle.audit_recording.specs.Session.Beside.Mark.{Begins, Joins}
+use Rattle.audit_recording.specs.Session.Hidden.{Hidden}
 use Rattle.audit_recording.specs.Session.Noted.{Noticed, nothing_noticed}
+use Rattle.audit_recording.specs.Session.Strays.{Stray}
 
 -- ---- the request, made by Python's struct, its checksums by RFC 1071, section 4.1
 
@@ -70,6 +76,7 @@ request_carried = record {
   time = at_second 2;
   is_doubtful = false;
   has_error = false;
+  checksum = Right;
   datagram = record { time = 2000000000; source = client; target = service; payload = read_of (97 ∷ []); is_spelled = true };
 }
 
@@ -79,6 +86,7 @@ ack_carried = record {
   time = at_second 3;
   is_doubtful = false;
   has_error = false;
+  checksum = Right;
   datagram = record { time = 3000000000; source = client; target = service; payload = ack_of 1; is_spelled = false };
 }
 
@@ -87,7 +95,8 @@ abbrev pub unread_at : ℕ → ℕ → Unread
 unread_at frame time = record { frame = frame; hosts = Some (host 7, host 1); time = time }
 
 -- Frame 4 is lost: at second 3, the time of the datagram before it. With frame 3 the packet of frames 1 and 3 is there whole; the clock
--- had reached no moment then, since one datagram alone had come. In frame 2 the client asks. Frame 1 waits.
+-- had reached no moment then, since one datagram alone had come. In frame 2 the client asks, and opens transfer 0; both datagrams pass at it.
+-- Frame 1 waits.
 abbrev pub worked_noticed : Noticed
 worked_noticed = record {
   last = 4;
@@ -97,8 +106,10 @@ worked_noticed = record {
   times = 3000000000 ∷ 2000000000 ∷ [];
   copies = [];
   other_links = [];
-  of_none = [];
   backwards = [];
+  strays = [];
+  hidden = [];
+  beside = Joins 0 3000000000 ∷ Joins 0 2000000000 ∷ Begins asked_first 2000000000 ∷ [];
 }
 
 -- ---- a recording of which three things are told
@@ -129,3 +140,25 @@ begun_noticed = record nothing_noticed { last = 1; events = Awaits (torn_at 1) �
 
 abbrev pub torn_noticed : Noticed
 torn_noticed = record nothing_noticed { last = 2; events = Loses (torn_at 2) ∷ GivesUp 1 ∷ Awaits (torn_at 1) ∷ [] }
+
+-- ---- frames behind two headers, and datagrams of no transfer
+
+-- frames 2 and 7 are lost behind ESP, and frame 5 behind MACsec
+abbrev pub worked_hidden : List Hidden
+worked_hidden = record { header = Esp; frame = 7 } ∷ record { header = MacSec; frame = 5 } ∷ record { header = Esp; frame = 2 } ∷ []
+
+-- a datagram of no transfer, from one port of 192.0.2.1 to another
+abbrev pub stray_at : ℕ → ℕ → List ℕ → ℕ → Stray
+stray_at source target payload frame = record { source = worked_end source; target = worked_end target; payload = payload; frame = frame }
+
+abbrev pub block_1 : List ℕ
+block_1 = 0 ∷ 3 ∷ 0 ∷ 1 ∷ 97 ∷ []
+
+-- block 1 goes from port 69 to port 2000 in frame 2, its ACK back in frame 3, a request from port 2000 to port 1069 in frame 4, and the block once
+-- more in frame 5
+abbrev pub worked_strays : List Stray
+worked_strays = stray_at 69 2000 block_1 5 ∷ stray_at 2000 1069 (read_of (97 ∷ [])) 4 ∷ stray_at 2000 69 (ack_of 1) 3 ∷ stray_at 69 2000 block_1 2 ∷ []
+
+-- from each of 17 ports a block goes to port 69
+abbrev pub many_strays : List Stray
+many_strays = map (λ port. stray_at port 69 block_1 port) (17 ∷ 16 ∷ 15 ∷ 14 ∷ 13 ∷ 12 ∷ 11 ∷ 10 ∷ 9 ∷ 8 ∷ 7 ∷ 6 ∷ 5 ∷ 4 ∷ 3 ∷ 2 ∷ 1 ∷ [])

@@ -1,7 +1,7 @@
 //! Which datagrams did not come as they were sent.
 
-ghost use Rattle.std.specs.Prelude.{◌≡◌, ◌∷◌, List};
-ghost use Rattle.audit_recording.specs.Reasons.Spoilt.{Checked, checked, first_spoilt};
+ghost use Rattle.std.specs.Prelude.{◌≡◌};
+ghost use Rattle.audit_recording.specs.Reasons.Spoilt.{checked, earlier_or, spoilt_by};
 
 use crate::blame::passing::Passing;
 use audit_flows::lines::Address;
@@ -18,8 +18,7 @@ pub struct Spoilt {
 
 /// The first spoilt datagram, where that one is the first.
 pub fn first_spoilt(spoilt: Option<Spoilt>, passing: &Passing<'_>) -> Option<Spoilt>
-    ensures { (older : List Checked) → spoilt ≡ first_spoilt older
-        → result ≡ first_spoilt (checked passing.now.frame passing.now.source.address passing.now.is_intact ∷ older) }
+    ensures { result ≡ earlier_or spoilt (spoilt_by (checked passing.now.frame passing.now.source.address passing.now.is_intact)) }
 {
     match (spoilt, passing.is_intact) {
         (None, Some(false)) => Some(Spoilt {

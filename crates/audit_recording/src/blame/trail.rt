@@ -1,6 +1,6 @@
 //! What is kept of a transfer beside its judges.
 
-ghost use Rattle.std.specs.Prelude.{◌≡◌, ◌∷◌, ◌&&◌, ◌||◌, not, [], ℕ, List, IsSome, None, OnOk, Some, filter, map, true};
+ghost use Rattle.std.specs.Prelude.{◌≡◌, ◌∷◌, ◌&&◌, ◌||◌, not, [], ℕ, List, IsSome, None, OnOk, Some, filter, map, max, true, unwrap_or};
 ghost use Rattle.law_model.specs.Rules.{or_this};
 ghost use Rattle.audit_flows.specs.Lines.{Placed, doubts_of, same_endpoint, transfer_of};
 ghost use Rattle.audit_flows.specs.{Transfer};
@@ -8,7 +8,8 @@ ghost use Rattle.audit_flows.specs.Transfers.{IsDoubtedAfter, comes_of_earlier, 
 ghost use Rattle.audit_recording.specs.Between.{IsBetweenFoundBy, between_capture, server_or_asked, sides_of};
 ghost use Rattle.audit_recording.specs.Blame.Facts.{blamed_as, blamed_of, has_gone_on, is_for_server, refused_between, refused_in};
 ghost use Rattle.audit_recording.specs.Blame.Frames.{Carried, Framed, framed, framed_after, view_of, whole_of};
-ghost use Rattle.audit_recording.specs.Blame.Kept.{IsNoted, IsPassing, IsSameBut, IsTrailBetween, IsTrailOf, is_about_it, sent_of};
+ghost use Rattle.audit_recording.specs.Blame.Kept.{IsNoted, IsPassing, IsSameBut, IsTrailBetween, IsTrailOf, is_about_it, sent_of, with_spoilt};
+ghost use Rattle.audit_recording.specs.Blame.Spoilt.{intact_in};
 ghost use Rattle.audit_recording.specs.Reasons.Twice.{IsTwiceAfter, Sent, are_twice, sent};
 ghost use Rattle.audit_recording.specs.Endings.Undelivered.{undelivered_of};
 ghost use Rattle.audit_recording.specs.Endings.Pace.{IsPaceIn};
@@ -17,6 +18,7 @@ ghost use Rattle.audit_recording.specs.Judges.Kept.{IsWatching};
 ghost use Rattle.audit_recording.specs.Judges.Points.{points_of, rollover_of};
 ghost use Rattle.audit_recording.specs.declared.judges.judging.Judging.{Judging as JudgingKind};
 ghost use Rattle.audit_recording.specs.declared.rows.row.Point.{Point as PointKind};
+ghost use Rattle.audit_recording.specs.Session.Beside.{IsMarkedBy, Mark, leaving_out};
 ghost use Rattle.audit_recording.specs.Session.Intact.{discarding};
 ghost use Rattle.audit_views.specs.Parties.{host_name};
 ghost use Rattle.audit_views.specs.Views.{IsFoundBy, client_capture, client_header, server_capture, server_header};
@@ -129,6 +131,9 @@ impl Trail {
         ensures first { result.first ≡ frame }
         ensures request { result.request ≡ request }
         ensures left_out { result.left_out ≡ None }
+        ensures discarded { result.discarded ≡ None }
+        ensures last_time { result.last_time ≡ 0 }
+        ensures transfer { result.transfer ≡ transfer }
     {
         Trail {
             transfer,
@@ -164,6 +169,7 @@ impl Trail {
     ) -> Result<(), AllocError>
         ensures stands { (judging : JudgingKind) (x : Transfer) (named : List ℕ) (c : Carried) (carried : List Carried)
             → IsTrailOf self.old judging x named carried → IsPassing passing.now c
+            → passing.now.is_intact ≡ intact_in (framed_after named carried c)
             → found.now.place ≡ (framed_after named carried c).placed.place
             → found.now.doubts ≡ doubts_of (framed_after named carried c).placed (whole_of named carried)
             → is_about_it x.number (framed_after named carried c) ≡ true
@@ -180,6 +186,10 @@ impl Trail {
         ensures first { self.new.first ≡ self.old.first }
         ensures request { self.new.request ≡ self.old.request }
         ensures left_out { self.new.left_out ≡ self.old.left_out }
+        ensures discarded { self.new.discarded ≡ self.old.discarded }
+        ensures transfer { self.new.transfer ≡ self.old.transfer }
+        ensures own_time { IsSome (transfer_of found.now.place) → self.new.last_time ≡ max self.old.last_time (unwrap_or passing.now.time 0) }
+        ensures same_time { transfer_of found.now.place ≡ None → self.new.last_time ≡ self.old.last_time }
     {
         self.note_place(&found.place, passing)?;
         self.copied_from = first(self.copied_from, passing.is_doubtful, passing.frame);
@@ -246,6 +256,8 @@ impl Trail {
     /// Notes whether a datagram came to its client, and the first spoilt one on each way.
     fn note_way(&mut self, passing: &Passing<'_>)
         ensures is_answered { self.new.is_answered ≡ (same_endpoint passing.now.target self.old.transfer.client || self.old.is_answered) }
+        ensures from_client { self.new.from_client ≡ with_spoilt (not (same_endpoint passing.now.target self.old.transfer.client)) passing.now self.old.from_client }
+        ensures to_client { self.new.to_client ≡ with_spoilt (same_endpoint passing.now.target self.old.transfer.client) passing.now self.old.to_client }
         ensures others { IsSameBut self.old self.new }
     {
         if passing.target == self.transfer.client {
@@ -282,6 +294,7 @@ impl Trail {
 
     /// Notes that a datagram at its client's endpoint was left out, whose time is within the transfer's: the first one is kept.
     pub fn leave_out(&mut self, frame: u64)
+        ensures is { self.new ≡ leaving_out frame self.old }
         ensures left_out { self.new.left_out ≡ or_this self.old.left_out true frame }
         ensures blame { self.new.blame ≡ self.old.blame }
         ensures stands { (judging : JudgingKind) (x : Transfer) (named : List ℕ) (carried : List Carried) → IsTrailOf self.old judging x named carried
@@ -294,6 +307,7 @@ impl Trail {
 
     /// Notes that a datagram did not arrive, if it was between its client and its server, or whom it asked: the last one is kept.
     pub fn note_undelivered(&mut self, undelivered: Undelivered)
+        ensures marked { (n : ℕ) (marks : List Mark) → IsMarkedBy n marks self.old → IsMarkedBy n marks self.new }
         ensures blame { self.new.blame ≡ self.old.blame }
         ensures stands { (judging : JudgingKind) (x : Transfer) (named : List ℕ) (carried : List Carried) → IsTrailOf self.old judging x named carried
             → IsTrailOf self.new judging x named carried }

@@ -1,7 +1,8 @@
 //! What looks like a transfer that began before the recording.
 
-ghost use Rattle.std.specs.Prelude.{◌≡◌, ◌++◌, IfOk, OnOk, map, string_bytes};
+ghost use Rattle.std.specs.Prelude.{◌≡◌, ◌++◌, ◌∷◌, [], IfOk, List, None, OnOk, map, position, string_bytes, true};
 ghost use Rattle.audit_recording.specs.Session.Lines.{begun_lines, ends_text, from_to_text, pair_line, pair_lines};
+ghost use Rattle.audit_recording.specs.Session.Strays.{AreBegunOf, Stray, goes_on, one_more, passed_between, stray_of};
 
 use crate::blame::Passing;
 use crate::session::endpoint::shown;
@@ -33,28 +34,44 @@ pub struct Begun {
 
 impl Begun {
     /// Nothing was read.
-    pub fn new(alloc: Global) -> Self {
+    pub fn new(alloc: Global) -> Self
+        ensures { AreBegunOf result [] }
+    {
         Begun {
             pairs: Vec::new(alloc),
         }
     }
 
     /// Notes a datagram of no transfer, if it begins as a block, an ACK, an ERROR or an OACK does (RFC 1350, section 5; RFC 2347).
-    pub fn note(&mut self, passing: &Passing<'_>) -> Result<(), AllocError> {
+    /// After an error they stand for nothing, here and below.
+    pub fn note(&mut self, passing: &Passing<'_>) -> Result<(), AllocError>
+        ensures { (strays : List Stray) → AreBegunOf self.old strays → OnOk result (AreBegunOf self.new (stray_of passing.now ∷ strays)) }
+    {
         if !goes_on(passing.payload) {
             return Ok(());
         }
-        match self.pairs.iter_mut().find(|pair| pair.is_of(passing)) {
-            Some(pair) => {
-                pair.add(passing.frame);
+        match self.place_of(passing) {
+            Some(place) => {
+                self.pairs[place].add(passing.frame);
                 Ok(())
             }
             None => self.begin(passing),
         }
     }
 
+    /// Where the two endpoints of a datagram stand.
+    fn place_of(&self, passing: &Passing<'_>) -> Option<usize>
+        ensures { result ≡ position (λ pair. passed_between pair.one pair.other (stray_of passing.now)) self.now.pairs.items }
+    {
+        self.pairs.iter().position(|pair| pair.is_of(passing))
+    }
+
     /// Begins with a pair of endpoints, unless there are many.
-    fn begin(&mut self, passing: &Passing<'_>) -> Result<(), AllocError> {
+    fn begin(&mut self, passing: &Passing<'_>) -> Result<(), AllocError>
+        ensures { (strays : List Stray) → AreBegunOf self.old strays → goes_on passing.now.payload.now ≡ true
+            → position (λ pair. passed_between pair.one pair.other (stray_of passing.now)) self.old.pairs.items ≡ None
+            → OnOk result (AreBegunOf self.new (stray_of passing.now ∷ strays)) }
+    {
         if self.pairs.len() >= MOST {
             return Ok(());
         }
@@ -81,12 +98,17 @@ impl Begun {
 
 impl Pair {
     /// Whether a datagram passed between these two.
-    fn is_of(&self, passing: &Passing<'_>) -> bool {
-        let ends = (passing.source, passing.target);
-        ends == (self.one, self.other) || ends == (self.other, self.one)
+    fn is_of(&self, passing: &Passing<'_>) -> bool
+        ensures { result ≡ passed_between self.now.one self.now.other (stray_of passing.now) }
+    {
+        let (source, target) = (passing.source, passing.target);
+        source == self.one && target == self.other || source == self.other && target == self.one
     }
 
-    fn add(&mut self, frame: u64) {
+    /// Notes one more.
+    fn add(&mut self, frame: u64)
+        ensures { self.new ≡ one_more frame self.old }
+    {
         self.count = self.count.saturating_add(1);
         self.last = frame;
     }
@@ -134,6 +156,8 @@ impl Pair {
 }
 
 /// Whether a payload begins as what follows a request does.
-fn goes_on(payload: &[u8]) -> bool {
+fn goes_on(payload: &[u8]) -> bool
+    ensures { result ≡ goes_on payload.now }
+{
     matches!(payload, [0, 3..=6, _, _, ..])
 }

@@ -1,6 +1,7 @@
 //! Frames that are left out behind a header that is not read, by its name.
 
-ghost use Rattle.std.specs.Prelude.{◌≡◌, ◌++◌, IfOk, OnOk, map, string_bytes};
+ghost use Rattle.std.specs.Prelude.{◌≡◌, ◌++◌, ◌∷◌, [], IfOk, List, None, OnOk, map, position, string_bytes};
+ghost use Rattle.audit_recording.specs.Session.Hidden.{AreBehindOf, Hidden, hiding, same_header};
 ghost use Rattle.audit_recording.specs.Session.Lines.{behind_lines, behind_words, kind_lines};
 
 use crate::session::frames::Frames;
@@ -22,30 +23,45 @@ pub struct Behind {
 
 impl Behind {
     /// Nothing was read.
-    pub fn new(alloc: Global) -> Self {
+    pub fn new(alloc: Global) -> Self
+        ensures { AreBehindOf result [] }
+    {
         Behind {
             kinds: Vec::new(alloc),
         }
     }
 
-    /// Notes a frame, if it has such a header.
+    /// Notes a frame, if it has such a header. After an error they stand for nothing, here and below.
     pub fn note(
         &mut self,
         alloc: Global,
         header: Option<UnreadHeader>,
         frame: u64,
-    ) -> Result<(), AllocError> {
+    ) -> Result<(), AllocError>
+        ensures { (hidden : List Hidden) → AreBehindOf self.old hidden → OnOk result (AreBehindOf self.new (hiding header frame hidden)) }
+    {
         let Some(header) = header else {
             return Ok(());
         };
-        match self.kinds.iter_mut().find(|kind| kind.header == header) {
-            Some(kind) => kind.frames.add(frame),
+        match self.place_of(header) {
+            Some(place) => self.kinds[place].frames.add(frame),
             None => self.begin(alloc, header, frame),
         }
     }
 
+    /// Where the frames of a header stand.
+    fn place_of(&self, header: UnreadHeader) -> Option<usize>
+        ensures { result ≡ position (λ kind. same_header header kind.header) self.now.kinds.items }
+    {
+        self.kinds.iter().position(|kind| header == kind.header)
+    }
+
     /// Begins with a header.
-    fn begin(&mut self, alloc: Global, header: UnreadHeader, frame: u64) -> Result<(), AllocError> {
+    fn begin(&mut self, alloc: Global, header: UnreadHeader, frame: u64) -> Result<(), AllocError>
+        ensures { (hidden : List Hidden) → AreBehindOf self.old hidden
+            → position (λ kind. same_header header kind.header) self.old.kinds.items ≡ None
+            → OnOk result (AreBehindOf self.new (record { header = header; frame = frame } ∷ hidden)) }
+    {
         let mut frames = Frames::new(alloc);
         frames.add(frame)?;
         self.kinds.push(Kind { header, frames })?;

@@ -1,18 +1,21 @@
 //! Laws of the definitions in `specs/`. Each is the contract of a function that does nothing.
 
-ghost use Rattle.std.specs.Prelude.{◌≡◌, ◌≤◌, ◌+◌, ◌++◌, ◌||◌, ◌∷◌, ℕ, List, [], None, Some, codes, false, length, true};
+ghost use Rattle.std.specs.Prelude.{◌≡◌, ◌≤◌, ◌+◌, ◌++◌, ◌==◌, ◌||◌, ◌∷◌, ℕ, List, [], None, Some, codes, false, length, map, true};
 ghost use Rattle.std.specs.Global.{Vec};
-ghost use Rattle.std.specs.List.{AllByRecursion};
+ghost use Rattle.std.specs.List.{AllByRecursion, list_any};
 ghost use Rattle.net_pcap.specs.{BeginsAsOne, NotARecording, Truncated};
 ghost use Rattle.net_udp.specs.Fragments.{content_of};
 ghost use Rattle.net_udp.specs.Frames.{acknowledgement};
 ghost use Rattle.net_udp.specs.Recording.{IsDatagram, IsHistory, Step, begun_step, last_bytes, last_part, waiting, worked_content};
 ghost use Rattle.net_udp.specs.declared.fragments.content.Content.{Content};
+ghost use Rattle.net_udp.specs.declared.frames.checksum.Checksum.TheVariants.{Absent, Right, Wrong};
 ghost use Rattle.net_udp.specs.declared.frames.unread.UnreadHeader.TheVariants.{MacSec};
 ghost use Rattle.net_udp.specs.declared.recording.fate.Datagram.{Datagram};
 ghost use Rattle.audit_flows.specs.{Address, V4};
-ghost use Rattle.audit_flows.specs.Transfers.{client, placed};
-ghost use Rattle.audit_flows.specs.Transfers.Worked.{server, two_clients};
+ghost use Rattle.audit_flows.specs.Transfers.{ack_of, asked_twice, client, placed, read_of};
+ghost use Rattle.audit_flows.specs.Transfers.Worked.{server, stranger, two_clients};
+ghost use Rattle.audit_views.specs.Views.{first_transfer};
+ghost use Rattle.audit_recording.specs.declared.rows.row.Point.{Point as PointKind};
 ghost use Rattle.tftp_packet.specs.{Client};
 ghost use Rattle.audit_recording.specs.declared.session.losses.Stretch.{Stretch};
 ghost use Rattle.audit_recording.specs.Losses.Noted.{Event, IsMissingOf, MayMiss, Unread, is_of_host, is_of_none, is_soon, lost_by, unread, waiting_at};
@@ -21,17 +24,25 @@ ghost use Rattle.audit_recording.specs.Reasons.Clock.{HaveReached};
 ghost use Rattle.audit_recording.specs.Reasons.Unplaced.{after, latest_at, newest_of, worked_end};
 ghost use Rattle.audit_recording.specs.Reasons.Unplaced.Event.{Ends, Opens, Passes};
 ghost use Rattle.audit_recording.specs.Audit.Passed.{HasPassed};
-ghost use Rattle.audit_recording.specs.Blame.Frames.{Carried, datagrams_of};
+ghost use Rattle.audit_recording.specs.Blame.Frames.{Carried, datagrams_of, view_of};
+ghost use Rattle.audit_recording.specs.Blame.Spoilt.{spoilt_from, spoilt_to};
+ghost use Rattle.audit_recording.specs.Blame.Worked.{in_even_frames, with_checksums};
 ghost use Rattle.audit_flows.specs.Lines.{silence};
+ghost use Rattle.audit_recording.specs.Session.HandedOut.{discarded_from, discarded_to};
+ghost use Rattle.audit_recording.specs.Endings.Worked.{asked_first};
+ghost use Rattle.audit_recording.specs.Session.Beside.{apart_at, asked_next, discarded_beside, gone_at, left_out_of, worked_marks};
+ghost use Rattle.audit_recording.specs.Session.Beside.Mark.{Begins};
 ghost use Rattle.audit_recording.specs.Session.Headed.{is_recording};
-ghost use Rattle.audit_recording.specs.Session.Lines.{behind_words, dropped_lines, fault_lines, left_out_lines, lines_of, pair_lines, ports_text};
+ghost use Rattle.audit_recording.specs.Session.Lines.{begun_told, behind_told, behind_words, dropped_lines, fault_lines, left_out_lines, lines_of, pair_lines, ports_text};
+ghost use Rattle.audit_recording.specs.Session.Hidden.{hidden_frames};
 ghost use Rattle.audit_recording.specs.Session.Noted.{AreUpTo, Noticed, frames_in, giving_up, going_back, told_in};
 ghost use Rattle.audit_recording.specs.Session.Opened.{BeginsNot};
 ghost use Rattle.audit_recording.specs.Session.Over.{AreLater, IsPast};
 ghost use Rattle.audit_recording.specs.Session.Recording.{IsNoticedOf};
+ghost use Rattle.audit_recording.specs.Session.Strays.{asked_ports, begun_pairs, goes_on};
 ghost use Rattle.audit_recording.specs.Session.Told.{AreApart, AreEachOnce, AreEarlier, AreOfOneKind, AreOnce, IsLostAlone, nothing_told};
 ghost use Rattle.audit_recording.specs.Session.Texts.{frame_text, heading_text, ordinal};
-ghost use Rattle.audit_recording.specs.Session.Worked.{ack_carried, at_second, begun_noticed, frame_at, request, request_bytes, request_carried, request_packet, told_noticed, told_steps, torn_noticed, torn_steps, worked_noticed, worked_steps};
+ghost use Rattle.audit_recording.specs.Session.Worked.{ack_carried, at_second, begun_noticed, block_1, frame_at, many_strays, request, request_bytes, request_carried, request_packet, stray_at, told_noticed, told_steps, torn_noticed, torn_steps, worked_hidden, worked_noticed, worked_steps, worked_strays};
 ghost use Rattle.audit_recording.specs.Session.Intact.{before_opening, discarded_of, makes_checksums, newest_at, worked_gone, worked_host, worked_seen};
 
 /// A frame of other hosts that is lost, or that waits, makes nothing more missing of a client's host.
@@ -111,6 +122,40 @@ pub fn worked_intact()
     ensures sent { discarded_of worked_seen (Some (record { frame = 3; host = worked_host 2 })) ≡ None }
 {}
 
+/// What is of no client's line may have been of a transfer, if it came before its request and has a later time, or if it passed at most
+/// 300 s after its last datagram; but not once its client had opened another. Of those that were discarded the newest before the request
+/// counts, which came at most 300 s before, and each that came since, the first of all.
+pub fn worked_beside()
+    ensures later { left_out_of 0 (Begins asked_first 10000000000 ∷ apart_at 3 11 ∷ []) ≡ Some 3 }
+    ensures earlier { left_out_of 0 (Begins asked_first 12000000000 ∷ apart_at 3 11 ∷ []) ≡ None }
+    ensures within { left_out_of 0 (apart_at 9 100 ∷ apart_at 7 320 ∷ worked_marks) ≡ Some 7 }
+    ensures too_late { left_out_of 0 (apart_at 7 321 ∷ worked_marks) ≡ None }
+    ensures the_next { left_out_of 0 (apart_at 7 31 ∷ asked_next ∷ worked_marks) ≡ None }
+    ensures of_next { left_out_of 3 (apart_at 7 31 ∷ asked_next ∷ worked_marks) ≡ Some 7 }
+    ensures before { discarded_beside 0 (Begins asked_first 310000000000 ∷ gone_at 4 10 ∷ gone_at 2 9 ∷ []) ≡ Some 4 }
+    ensures long_before { discarded_beside 0 (Begins asked_first 310000000001 ∷ gone_at 4 10 ∷ []) ≡ None }
+    ensures since { discarded_beside 0 (gone_at 9 22 ∷ gone_at 7 21 ∷ worked_marks) ≡ Some 7 }
+    ensures gone_next { discarded_beside 0 (gone_at 9 31 ∷ asked_next ∷ worked_marks) ≡ None }
+    ensures gone_of_next { discarded_beside 3 (gone_at 9 31 ∷ asked_next ∷ worked_marks) ≡ Some 9 }
+{}
+
+/// Worked example: a read of one byte whose client asks twice, and which a stranger sends a block, in frames 2, 4, 6, 8 and 10. The
+/// checksums of frame 2 are right, frame 4 has none, and those of the others are wrong. The first wrong one from the client is in frame
+/// 10, and it was discarded, since the client's host makes its checksums; the first to the client is in frame 6, and nothing tells that it
+/// was discarded, since its host has sent none with right checksums. Where frame 6 is right, frame 8 is the first to the client. What
+/// another client sends with a wrong checksum, or what a stranger sends to the server, counts for nothing.
+pub fn worked_handed_out()
+    ensures from { spoilt_from first_transfer (view_of PointKind.Client 0 [] (with_checksums (Wrong ∷ Wrong ∷ Wrong ∷ Absent ∷ Right ∷ []) (in_even_frames asked_twice)))
+        ≡ Some (record { frame = 10; host = client.address }) }
+    ensures to { spoilt_to first_transfer (view_of PointKind.Client 0 [] (with_checksums (Wrong ∷ Wrong ∷ Wrong ∷ Absent ∷ Right ∷ []) (in_even_frames asked_twice)))
+        ≡ Some (record { frame = 6; host = server.address }) }
+    ensures later { spoilt_to first_transfer (view_of PointKind.Client 0 [] (with_checksums (Wrong ∷ Wrong ∷ Right ∷ Absent ∷ Right ∷ []) (in_even_frames asked_twice)))
+        ≡ Some (record { frame = 8; host = stranger.address }) }
+    ensures discarded { discarded_from first_transfer [] (with_checksums (Wrong ∷ Wrong ∷ Wrong ∷ Absent ∷ Right ∷ []) (in_even_frames asked_twice)) ≡ Some 10 }
+    ensures untold { discarded_to first_transfer [] (with_checksums (Wrong ∷ Wrong ∷ Wrong ∷ Absent ∷ Right ∷ []) (in_even_frames asked_twice)) ≡ None }
+    ensures others { spoilt_from first_transfer (view_of PointKind.Client 0 [] (with_checksums (Right ∷ Wrong ∷ Wrong ∷ Right ∷ Wrong ∷ Right ∷ Wrong ∷ []) (in_even_frames two_clients))) ≡ None }
+{}
+
 /// What was discarded in frame 7 at second 10 may have been of a transfer that is opened up to second 310, and of none later.
 pub fn worked_discarded()
     ensures source { newest_at worked_gone.source (worked_gone ∷ []) ≡ Some worked_gone }
@@ -145,6 +190,15 @@ pub fn each_frame_is_told_once()
         → IsLostAlone (told_in (giving_up (frames_in (waiting history)) s)) }
     ensures lost_within { (named : List ℕ) (history : List Step) (carried : List Carried) (s : Noticed) → IsHistory history → IsNoticedOf named history carried s
         → AllByRecursion (λ n. (1 ≤ n) × (n ≤ length history)) (told_in (giving_up (frames_in (waiting history)) s)).lost }
+{}
+
+/// A frame that is told behind a header is told there once, behind one header alone: and it is a frame of the recording, which is told as one
+/// that is not there whole.
+pub fn each_frame_is_behind_one_header()
+    ensures once { (named : List ℕ) (history : List Step) (carried : List Carried) (s : Noticed) → IsNoticedOf named history carried s
+        → AreEarlier (length history + 1) (hidden_frames s.hidden) }
+    ensures lost { (named : List ℕ) (history : List Step) (carried : List Carried) (s : Noticed) → IsNoticedOf named history carried s
+        → AllByRecursion (λ n. list_any (λ lost. lost == n) (told_in s).lost ≡ true) (hidden_frames s.hidden) }
 {}
 
 /// A file that begins as a recording is not said to be none.
@@ -196,6 +250,27 @@ pub fn worked_notes()
     ensures fault { fault_lines (Some (record { kind = Truncated; frame = 12 })) ≡ codes "frame 12: the recording is cut" ∷ [] }
     ensures ports { ports_text (69 ∷ 1069 ∷ []) ≡ Some (codes " 69, 1069") }
     ensures no_port { ports_text [] ≡ None }
+{}
+
+/// Frames behind two headers are told in a line for each, that of the header first that came first; of none there is no line.
+pub fn worked_headers()
+    ensures two { behind_told worked_hidden
+        ≡ codes "2 datagrams behind ESP (RFC 4303), which is not read (frames 2, 7)" ∷ codes "1 datagram behind MACsec (IEEE 802.1AE), which is not read (frame 5)" ∷ [] }
+    ensures none { behind_told [] ≡ [] }
+{}
+
+/// A block, its ACK and the block once more pass between two endpoints, whichever way they go, and the request beside them between two
+/// others: so three of them look like a transfer that began before the recording, and the request names its port, once. Of 17 pairs of
+/// endpoints the first 16 are told.
+pub fn worked_strays()
+    ensures begun { begun_told worked_strays
+        ≡ codes "3 datagrams between 192.0.2.1:69 and 192.0.2.1:2000 look like a transfer that began before the recording (frames 2 to 5)" ∷ [] }
+    ensures few { begun_told (stray_at 2000 69 (ack_of 1) 3 ∷ stray_at 69 2000 block_1 2 ∷ []) ≡ [] }
+    ensures request { goes_on (read_of (97 ∷ [])) ≡ false }
+    ensures short { goes_on (0 ∷ 3 ∷ 0 ∷ []) ≡ false }
+    ensures many { map (λ pair. pair.first) (begun_pairs many_strays) ≡ 1 ∷ 2 ∷ 3 ∷ 4 ∷ 5 ∷ 6 ∷ 7 ∷ 8 ∷ 9 ∷ 10 ∷ 11 ∷ 12 ∷ 13 ∷ 14 ∷ 15 ∷ 16 ∷ [] }
+    ensures ports { asked_ports worked_strays ≡ 1069 ∷ [] }
+    ensures once { asked_ports (stray_at 2001 1069 (read_of (98 ∷ [])) 6 ∷ worked_strays) ≡ 1069 ∷ [] }
 {}
 
 /// A frame that is told twice is refused, and one that is told as two things. At the time of the datagram before it none goes back.

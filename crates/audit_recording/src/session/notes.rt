@@ -2,21 +2,24 @@
 
 ghost use Rattle.std.specs.Prelude.{◌≡◌, ◌≤◌, ◌<◌, ◌&&◌, ◌∷◌, ◌++◌, ◌⊎◌, [], ℕ, IfOk, IsSome, List, MatchBool, MatchOption, None, Option, OnOk, Some, false, is_none, map, nat_le, option_map, string_bytes, true};
 ghost use Rattle.std.specs.declared.net.ip_addr.IpAddr.{IpAddr as Host};
+ghost use Rattle.net_udp.specs.declared.frames.unread.UnreadHeader.{UnreadHeader as Header};
 ghost use Rattle.audit_flows.specs.Lines.{same_address};
 ghost use Rattle.audit_recording.specs.Losses.Noted.{IsAsked, IsFirst, IsMissingOf, IsTold, MayMiss, Since, longest_wait};
 ghost use Rattle.audit_recording.specs.Losses.Noted.Event.{Asks, Waits};
 ghost use Rattle.audit_recording.specs.Reasons.Clock.{IsClockAfter};
 ghost use Rattle.audit_recording.specs.Session.Lines.{aside_lines, fault_lines, lines_told, lost_lines, ports_text};
-ghost use Rattle.audit_recording.specs.Session.Noted.{AreHostsOf, AreNotesOf, Noticed, finding, frames_in, giving_up, going, going_back, leaving, leaving_aside, losing, lost_frames, may_be_datagram, nothing_noticed, noting, others, passing_by, stretch_of, told_in, unread_in};
+ghost use Rattle.audit_recording.specs.Session.Noted.{AreHostsOf, AreNotesOf, IsHeaderOf, Noticed, finding, frames_in, giving_up, going, going_back, leaving, leaving_aside, losing, lost_frames, may_be_datagram, nothing_noticed, noting, others, passing_by, stretch_of, told_in, unread_in};
 ghost use Rattle.audit_recording.specs.Session.Over.{IsPast, IsWaitingAt};
 ghost use Rattle.audit_recording.specs.Session.Recording.{reached_by, setting_aside};
+ghost use Rattle.audit_recording.specs.Session.Strays.{asked_ports, stray_of};
 ghost use Rattle.audit_recording.specs.Session.Told.{AreKindsOf, Told, is_nil};
 
 use crate::blame::{Missing, Passing, Trail};
+use crate::session::asked::note_asked;
 use crate::session::begun::Begun;
 use crate::session::behind::Behind;
 use crate::session::clock::Clock;
-use crate::session::frames::{NAMED, put_numbers};
+use crate::session::frames::put_numbers;
 use crate::session::intact::IntactHosts;
 use crate::session::kinds::Kinds;
 use crate::session::losses::{Losses, SILENCE, Stretch, WAIT};
@@ -108,6 +111,9 @@ impl Notes {
             → OnOk result (AreKindsOf self.new.kinds (record t { backwards = going_back frame (Some time) times t.backwards })) }
         ensures losses { self.new.losses ≡ self.old.losses }
         ensures intact { self.new.intact ≡ self.old.intact }
+        ensures behind { self.new.behind ≡ self.old.behind }
+        ensures begun { self.new.begun ≡ self.old.begun }
+        ensures asked { self.new.asked ≡ self.old.asked }
         ensures fault { self.new.fault ≡ self.old.fault }
     {
         if self.clock.pass(time) {
@@ -164,8 +170,8 @@ impl Notes {
     /// Notes a frame that can't be read, and those that share its fate, of which it may be one.
     fn lose_with(&mut self, alloc: Global, event: &Event) -> Result<(), AllocError>
         ensures stands { (s : Noticed) → AreNotesOf self.old s → s.last ≤ event.now.frame.number
-            → OnOk result ((hosts : Option (Host × Host)) × AreHostsOf event.now hosts
-            × AreNotesOf self.new (losing self.old.clock.reached event.now hosts s)) }
+            → OnOk result ((hosts : Option (Host × Host)) × (header : Option Header) × AreHostsOf event.now hosts × IsHeaderOf event.now header
+            × AreNotesOf self.new (losing self.old.clock.reached event.now hosts header s)) }
         ensures fault { self.new.fault ≡ self.old.fault }
     {
         let frame = event.number();
@@ -225,8 +231,8 @@ impl Notes {
         ensures none { (s : Noticed) → AreNotesOf self.old s → may_be_datagram why ≡ false
             → OnOk result (AreNotesOf self.new (leaving self.old.clock.reached why event.now s)) }
         ensures lost { (s : Noticed) → AreNotesOf self.old s → may_be_datagram why ≡ true → s.last ≤ event.now.frame.number
-            → OnOk result ((hosts : Option (Host × Host)) × AreHostsOf event.now hosts
-            × AreNotesOf self.new (losing self.old.clock.reached event.now hosts s)) }
+            → OnOk result ((hosts : Option (Host × Host)) × (header : Option Header) × AreHostsOf event.now hosts × IsHeaderOf event.now header
+            × AreNotesOf self.new (losing self.old.clock.reached event.now hosts header s)) }
         ensures fault { self.new.fault ≡ self.old.fault }
     {
         match why {
@@ -262,7 +268,7 @@ impl Notes {
         place: &Place,
         passing: &Passing<'_>,
     ) -> Result<(), AllocError>
-        ensures stands { (s : Noticed) → AreNotesOf self.old s → OnOk result (AreNotesOf self.new (setting_aside place.now passing.now.frame s)) }
+        ensures stands { (s : Noticed) → AreNotesOf self.old s → OnOk result (AreNotesOf self.new (setting_aside place.now (stray_of passing.now) s)) }
         ensures fault { self.new.fault ≡ self.old.fault }
     {
         match place {
@@ -273,14 +279,10 @@ impl Notes {
 
     /// Notes a datagram of no transfer.
     pub(crate) fn leave_out(&mut self, passing: &Passing<'_>) -> Result<(), AllocError>
-        ensures stands { (s : Noticed) → AreNotesOf self.old s → OnOk result (AreNotesOf self.new (leaving_aside passing.now.frame s)) }
+        ensures stands { (s : Noticed) → AreNotesOf self.old s → OnOk result (AreNotesOf self.new (leaving_aside (stray_of passing.now) s)) }
         ensures fault { self.new.fault ≡ self.old.fault }
     {
-        let port = u64::from(passing.target.port);
-        let is_request = matches!(passing.payload, [0, 1 | 2, _, ..]);
-        if is_request && self.asked.len() < NAMED && !self.asked.contains(&port) {
-            self.asked.push(port)?;
-        }
+        note_asked(&mut self.asked, passing)?;
         self.begun.note(passing)?;
         self.kinds.of_none.add(passing.frame)
     }
@@ -344,7 +346,7 @@ impl Notes {
 
     /// What there is to tell, a line each.
     pub fn lines(&self, alloc: Global) -> Result<Vec<String>, AllocError>
-        ensures { (s : Noticed) → AreNotesOf self.now s → IfOk result (λ lines. map string_bytes lines.items ≡ lines_told (told_in s) self.now) }
+        ensures { (s : Noticed) → AreNotesOf self.now s → IfOk result (λ lines. map string_bytes lines.items ≡ lines_told s self.now.dropped self.now.fault) }
     {
         let mut lines = Vec::new(alloc);
         self.kinds.put_left_out(alloc, &mut lines)?;
@@ -356,8 +358,8 @@ impl Notes {
 
     /// Adds what there is to tell of what is of no transfer, or out of order.
     fn put_aside(&self, alloc: Global, lines: &mut Vec<String>) -> Result<(), AllocError>
-        ensures { (t : Told) → AreKindsOf self.now.kinds t
-            → OnOk result (map string_bytes lines.new.items ≡ map string_bytes lines.old.items ++ aside_lines t self.now.begun) }
+        ensures { (s : Noticed) → AreNotesOf self.now s
+            → OnOk result (map string_bytes lines.new.items ≡ map string_bytes lines.old.items ++ aside_lines s) }
     {
         self.kinds.put_of_none(alloc, lines)?;
         self.begun.put(alloc, lines)?;
@@ -366,8 +368,8 @@ impl Notes {
 
     /// Adds what there is to tell of what was lost.
     fn put_lost(&self, alloc: Global, lines: &mut Vec<String>) -> Result<(), AllocError>
-        ensures { (t : Told) → AreKindsOf self.now.kinds t
-            → OnOk result (map string_bytes lines.new.items ≡ map string_bytes lines.old.items ++ lost_lines t self.now.behind self.now.dropped) }
+        ensures { (s : Noticed) → AreNotesOf self.now s
+            → OnOk result (map string_bytes lines.new.items ≡ map string_bytes lines.old.items ++ lost_lines s self.now.dropped) }
     {
         self.kinds.put_lost(alloc, lines)?;
         self.behind.put(alloc, lines)?;
@@ -389,7 +391,7 @@ impl Notes {
 
     /// The ports at which something looks like a request, with a space before each; none where nothing does.
     pub fn asked_ports(&self, alloc: Global) -> Result<Option<String>, AllocError>
-        ensures { IfOk result (λ ports. option_map string_bytes ports ≡ ports_text self.now.asked.items) }
+        ensures { (s : Noticed) → AreNotesOf self.now s → IfOk result (λ ports. option_map string_bytes ports ≡ ports_text (asked_ports s.strays)) }
     {
         if self.asked.is_empty() {
             return Ok(None);

@@ -16,15 +16,20 @@ ghost use Rattle.audit_recording.specs.Audit.{AuditsAfter};
 ghost use Rattle.audit_recording.specs.Audit.Audited.{IsAttributed, IsOfEvent};
 ghost use Rattle.audit_recording.specs.Blame.Frames.{Carried, datagrams_of, framed_after, whole_of};
 ghost use Rattle.audit_recording.specs.Blame.Kept.{IsPassing};
+ghost use Rattle.audit_recording.specs.Blame.Spoilt.{all_checked, intact_at, intact_by, intact_in};
 ghost use Rattle.audit_recording.specs.Judges.{IsWatching, WereOpened, is_among, opened};
 ghost use Rattle.audit_recording.specs.declared.judges.judging.Judging.{Judging as JudgingKind};
 ghost use Rattle.audit_views.specs.Parties.{host_name};
+ghost use Rattle.audit_recording.specs.Reasons.Clock.{IsClockAfter};
 ghost use Rattle.audit_recording.specs.Losses.Noted.{IsAsked, IsFirst, IsMissingOf, IsTold, Since};
-ghost use Rattle.audit_recording.specs.Session.Noted.{AreNotesOf, Noticed, nothing_noticed, stretch_of};
-ghost use Rattle.audit_recording.specs.Session.Recording.{AddsOne, IsCarriedBy, IsNoticedOf, intact_at, intact_by, placing, setting_aside};
+ghost use Rattle.audit_recording.specs.Session.Noted.{AreNotesOf, Noticed, nothing_noticed, stretch_of, with_time};
+ghost use Rattle.audit_recording.specs.Session.Recording.{AddsOne, IsCarriedBy, IsNoticedOf, joining, marks_with, placing, setting_aside, straying};
+ghost use Rattle.audit_recording.specs.Session.Beside.{AreMarksKept, Mark, gone_of};
+ghost use Rattle.audit_recording.specs.Session.HandedOut.{IsHandedOut, IsToldBeside};
 ghost use Rattle.audit_recording.specs.Session.Kept.{AreJudgesLeft, GivesNone, IsSessionAfter, IsSessionOf, ReadsOn};
 ghost use Rattle.audit_recording.specs.Session.Opened.{IsReadFaultOf};
 ghost use Rattle.audit_recording.specs.Session.Over.{IsOldestOver};
+ghost use Rattle.audit_recording.specs.Session.Strays.{stray_of};
 ghost use Rattle.audit_recording.specs.Session.Texts.{AreTextsKept, IsNoneNumbered, opened_numbers, ordinal};
 ghost use Rattle.audit_recording.specs.Session.Trails.{AreTrailsBegun, AreTrailsKept, IsTrailAfter};
 
@@ -151,6 +156,7 @@ impl Session {
         ensures notes { (s : Noticed) → AreNotesOf self.old.notes s → AreNotesOf self.new.notes s }
         ensures audit { self.new.audit ≡ self.old.audit }
         ensures trails { self.new.trails ≡ self.old.trails }
+        ensures unplaced { self.new.unplaced ≡ self.old.unplaced }
         ensures over { result ≢ Ok true }
         ensures told { fault.kind ≢ Kind.Memory → result ≡ Ok false }
         ensures kept { self.new.kept ≡ self.old.kept }
@@ -173,13 +179,14 @@ impl Session {
         ensures none { (named : List ℕ) (history : List Step) (carried : List Carried) (s : Noticed) (step : Step)
             → found ≡ None → GivesNone event.old → IsOfEvent step history event.old
             → IsNoticedOf named history carried s → AreNotesOf self.old.notes s
-            → OnOk result ((t : Noticed) × IsNoticedOf named (step ∷ history) carried t × AreNotesOf self.new.notes t) }
+            → OnOk result ((t : Noticed) × IsNoticedOf named (step ∷ history) carried t
+            × (AreNotesOf self.new.notes t × ((out : List ℕ) → AreMarksKept self.old.unplaced self.old.trails out s.beside → AreMarksKept self.new.unplaced self.new.trails out t.beside))) }
         ensures datagram { (named : List ℕ) (history : List Step) (carried : List Carried) (s : Noticed) (step : Step) (c : Carried) (a : Found) (given : Given)
             → found ≡ Some a → IsOfEvent step history event.old
             → IsFateOf event.old.frame.parts event.old.likeness event.old.brought.outcome event.old.is_discarded (Became.Datagram given)
             → IsCarriedBy event.old given carried c → a.place ≡ (framed_after named carried c).placed.place
             → IsNoticedOf named history carried s → AreNotesOf self.old.notes s
-            → OnOk result ((t : Noticed) × IsNoticedOf named (step ∷ history) (c ∷ carried) t × AreNotesOf self.new.notes t) }
+            → OnOk result ((t : Noticed) × IsNoticedOf named (step ∷ history) (c ∷ carried) t × (AreNotesOf self.new.notes t × (t.beside ≡ marks_with a.place c (with_time c.time s.times) s.beside))) }
         ensures audit { self.new.audit ≡ self.old.audit }
         ensures same_trails { (judging : JudgingKind) (named out : List ℕ) (carried : List Carried) → found ≡ None
             → AreTrailsKept self.old.trails judging named out carried → AreTrailsKept self.new.trails judging named out carried }
@@ -190,6 +197,15 @@ impl Session {
             → WereOpened out (whole_of named carried) → AuditsAfter self.old.audit named out history (datagrams_of (c ∷ carried))
             → AreTrailsKept self.old.trails self.old.audit.judge.judging named out carried
             → OnOk result (AreTrailsKept self.new.trails self.old.audit.judge.judging named out (c ∷ carried)) }
+        ensures marks { (named out : List ℕ) (history : List Step) (carried : List Carried) (s : Noticed) (step : Step) (c : Carried) (a : Found) (given : Given)
+            → found ≡ Some a → IsOfEvent step history event.old
+            → IsFateOf event.old.frame.parts event.old.likeness event.old.brought.outcome event.old.is_discarded (Became.Datagram given)
+            → IsCarriedBy event.old given carried c
+            → IsAttributed named (datagrams_of carried) c.datagram a → WereOpened out (whole_of named carried)
+            → AuditsAfter self.old.audit named out (step ∷ history) (datagrams_of (c ∷ carried))
+            → AreTrailsKept self.old.trails self.old.audit.judge.judging named out carried
+            → IsNoticedOf named history carried s → AreNotesOf self.old.notes s → AreMarksKept self.old.unplaced self.old.trails out s.beside
+            → OnOk result (AreMarksKept self.new.unplaced self.new.trails out (marks_with a.place c (with_time c.time s.times) s.beside)) }
         ensures goes { result ≢ Ok false }
         ensures fault { self.new.notes.fault ≡ self.old.notes.fault }
         ensures same_kept { found ≡ None → self.new.kept ≡ self.old.kept }
@@ -218,7 +234,8 @@ impl Session {
         ensures none { (named : List ℕ) (carried : List Carried) (s : Noticed)
             → found ≡ None → GivesNone event.now → s.last ≤ event.now.frame.number → AreNotesOf self.old.notes s
             → OnOk result ((fate : Became) × (t : Noticed) × IsFateOf event.now.frame.parts event.now.likeness event.now.brought.outcome event.now.is_discarded fate
-            × AddsOne named event.now fate carried s carried t × AreNotesOf self.new.notes t) }
+            × AddsOne named event.now fate carried s carried t
+            × (AreNotesOf self.new.notes t × ((out : List ℕ) → AreMarksKept self.old.unplaced self.old.trails out s.beside → AreMarksKept self.new.unplaced self.new.trails out t.beside))) }
         ensures datagram { (named : List ℕ) (carried : List Carried) (s : Noticed) (c : Carried) (a : Found) (given : Given)
             → found ≡ Some a → IsFateOf event.now.frame.parts event.now.likeness event.now.brought.outcome event.now.is_discarded (Became.Datagram given)
             → IsCarriedBy event.now given carried c → s.last < event.now.frame.number → AreNotesOf self.old.notes s
@@ -232,6 +249,14 @@ impl Session {
             → WereOpened out (whole_of named carried) → AuditsAfter self.old.audit named out history (datagrams_of (c ∷ carried))
             → AreTrailsKept self.old.trails self.old.audit.judge.judging named out carried
             → OnOk result (AreTrailsKept self.new.trails self.old.audit.judge.judging named out (c ∷ carried)) }
+        ensures marks { (named out : List ℕ) (history : List Step) (carried : List Carried) (s : Noticed) (c : Carried) (a : Found) (given : Given)
+            → found ≡ Some a → IsFateOf event.now.frame.parts event.now.likeness event.now.brought.outcome event.now.is_discarded (Became.Datagram given)
+            → IsCarriedBy event.now given carried c
+            → IsAttributed named (datagrams_of carried) c.datagram a → WereOpened out (whole_of named carried)
+            → AuditsAfter self.old.audit named out history (datagrams_of (c ∷ carried))
+            → AreTrailsKept self.old.trails self.old.audit.judge.judging named out carried
+            → s.last < event.now.frame.number → AreNotesOf self.old.notes s → gone_of s.beside ≡ s.gone → AreMarksKept self.old.unplaced self.old.trails out s.beside
+            → OnOk result (AreMarksKept self.new.unplaced self.new.trails out (marks_with a.place c (with_time c.time s.times) s.beside)) }
         ensures fault { self.new.notes.fault ≡ self.old.notes.fault }
         ensures same_kept { found ≡ None → self.new.kept ≡ self.old.kept }
         ensures texts { (named : List ℕ) (carried : List Carried) (c : Carried) (a : Found) (given : Given)
@@ -276,6 +301,13 @@ impl Session {
             → WereOpened out (whole_of named carried) → AuditsAfter self.old.audit named out history (datagrams_of (c ∷ carried))
             → AreTrailsKept self.old.trails self.old.audit.judge.judging named out carried
             → OnOk result (AreTrailsKept self.new.trails self.old.audit.judge.judging named out (c ∷ carried)) }
+        ensures marks { (named out : List ℕ) (history : List Step) (carried : List Carried) (s : Noticed) (c : Carried) (a : Found)
+            → found ≡ Some a → IsCarriedBy event.now datagram.now carried c
+            → IsAttributed named (datagrams_of carried) c.datagram a → WereOpened out (whole_of named carried)
+            → AuditsAfter self.old.audit named out history (datagrams_of (c ∷ carried))
+            → AreTrailsKept self.old.trails self.old.audit.judge.judging named out carried
+            → s.last < event.now.frame.number → AreNotesOf self.old.notes s → gone_of s.beside ≡ s.gone → AreMarksKept self.old.unplaced self.old.trails out s.beside
+            → OnOk result (AreMarksKept self.new.unplaced self.new.trails out (marks_with a.place c (with_time c.time s.times) s.beside)) }
         ensures fault { self.new.notes.fault ≡ self.old.notes.fault }
         ensures same_kept { found ≡ None → self.new.kept ≡ self.old.kept }
         ensures texts { (named : List ℕ) (carried : List Carried) (c : Carried) (a : Found) → found ≡ Some a → IsCarriedBy event.now datagram.now carried c
@@ -321,13 +353,20 @@ impl Session {
 
     /// Notes a datagram at the transfer that it is about, or as one of none.
     fn follow(&mut self, found: &Attributed, passing: &Passing<'_>) -> Result<(), AllocError>
-        ensures notes { (s : Noticed) → AreNotesOf self.old.notes s → OnOk result (AreNotesOf self.new.notes (setting_aside found.now.place passing.now.frame s)) }
+        ensures notes { (s : Noticed) → AreNotesOf self.old.notes s → OnOk result (AreNotesOf self.new.notes (setting_aside found.now.place (stray_of passing.now) s)) }
         ensures audit { self.new.audit ≡ self.old.audit }
         ensures trails { (named out : List ℕ) (history : List Step) (c : Carried) (carried : List Carried)
             → IsAttributed named (datagrams_of carried) c.datagram found.now → IsPassing passing.now c
+            → passing.now.is_intact ≡ intact_in (framed_after named carried c)
             → AuditsAfter self.old.audit named out history (datagrams_of (c ∷ carried))
             → AreTrailsBegun self.old.trails self.old.audit.judge.judging named out c carried
             → OnOk result (AreTrailsKept self.new.trails self.old.audit.judge.judging named out (c ∷ carried)) }
+        ensures marks { (named out : List ℕ) (history : List Step) (c : Carried) (carried : List Carried) (times : List ℕ) (marks : List Mark)
+            → IsAttributed named (datagrams_of carried) c.datagram found.now → IsPassing passing.now c
+            → AuditsAfter self.old.audit named out history (datagrams_of (c ∷ carried))
+            → AreTrailsBegun self.old.trails self.old.audit.judge.judging named out c carried
+            → IsClockAfter self.old.notes.clock times → AreMarksKept self.old.unplaced self.old.trails out marks
+            → OnOk result (AreMarksKept self.new.unplaced self.new.trails out (straying found.now.place c times (joining found.now.place c.time marks))) }
         ensures fault { self.new.notes.fault ≡ self.old.notes.fault }
         ensures kept { self.new.kept ≡ self.old.kept }
     {
@@ -369,6 +408,12 @@ impl Session {
             → IfSome result (λ e. is_among e.watched.transfer.number out ≡ false) }
         ensures trail { (named out : List ℕ) (history : List Step) (carried : List Carried) (s : Noticed) → IsSessionOf self.old named out history carried s
             → IfSome result (λ e. IsTrailAfter e.trail self.old.audit.judge.judging e.watched.transfer named carried) }
+        ensures discarded { (named out : List ℕ) (history : List Step) (carried : List Carried) (s : Noticed) → IsSessionOf self.old named out history carried s
+            → s.seen ≡ all_checked named carried
+            → IfSome result (λ e. IsHandedOut e self.old.trails named carried) }
+        ensures beside { (named out : List ℕ) (history : List Step) (carried : List Carried) (s : Noticed) → IsSessionOf self.old named out history carried s
+            → s.seen ≡ all_checked named carried
+            → IfSome result (λ e. IsToldBeside e.trail e.watched.transfer named carried s.beside) }
         ensures all { (named out : List ℕ) (history : List Step) (carried : List Carried) (s : Noticed) → IsSessionOf self.old named out history carried s
             → result ≡ None → (n : ℕ) → (opened n (whole_of named carried) ≡ None) ⊎ (is_among n out ≡ true) }
         ensures none { (named out : List ℕ) (history : List Step) (carried : List Carried) (s : Noticed) → IsSessionOf self.old named out history carried s

@@ -1,17 +1,25 @@
 //! The trails of a recording's transfers, with one datagram more.
 
-ghost use Rattle.std.specs.Prelude.{◌≡◌, ◌<◌, ◌==◌, ◌∷◌, ℕ, List, OnOk};
+ghost use Rattle.std.specs.Prelude.{◌≡◌, ◌<◌, ◌==◌, ◌∷◌, ℕ, List, OnOk, Ok, Option, option_map, unwrap_or};
+ghost use Rattle.std.specs.BTreeMap.{get};
+ghost use Rattle.std.specs.Ordering.{nat_cmp};
 ghost use Rattle.net_udp.specs.Recording.{Step};
 ghost use Rattle.audit_flows.specs.{Opens, Transfer as TransferValue};
 ghost use Rattle.audit_recording.specs.Audit.{AuditsAfter};
 ghost use Rattle.audit_recording.specs.Audit.Audited.{IsAttributed};
 ghost use Rattle.audit_recording.specs.Blame.Frames.{Carried, datagrams_of, framed_after, whole_of};
 ghost use Rattle.audit_recording.specs.Blame.Kept.{IsPassing, IsTrailOf, is_about_it};
+ghost use Rattle.audit_recording.specs.Blame.Spoilt.{intact_in};
 ghost use Rattle.audit_recording.specs.Judges.{WereOpened};
 ghost use Rattle.audit_recording.specs.declared.judges.judging.Judging.{Judging as JudgingKind};
 ghost use Rattle.audit_recording.specs.Losses.Noted.Event.{Asks};
+ghost use Rattle.audit_recording.specs.Reasons.Clock.{IsClockAfter, last_of};
+ghost use Rattle.audit_recording.specs.Reasons.Unplaced.{is_it};
+ghost use Rattle.audit_recording.specs.Session.Beside.{AreMarksKept, Mark, discarding_if, gone_of, leaving_out_if, leaving_out_some};
+ghost use Rattle.audit_recording.specs.Session.Beside.Mark.{Discards};
 ghost use Rattle.audit_recording.specs.Session.Noted.{AreNotesOf, Noticed, finding, going, noting, sharers_of};
-ghost use Rattle.audit_recording.specs.Session.Recording.{asking, gone_by, reached_by};
+ghost use Rattle.audit_recording.specs.Session.Recording.{asking, beginning, gone_by, joining, reached_by, straying};
+ghost use Rattle.audit_recording.specs.declared.session.unplaced.Unplaced.{Unplaced as UnplacedValue};
 ghost use Rattle.audit_recording.specs.Session.Trails.{AreTrailsBegun, AreTrailsKept};
 
 use crate::audit::RecordingAudit;
@@ -34,7 +42,8 @@ pub(crate) fn note_undelivered(
     unplaced: &Unplaced,
     event: &Event,
 )
-    ensures { (judging : JudgingKind) (named out : List ℕ) (carried : List Carried) → AreTrailsKept trails.old judging named out carried → AreTrailsKept trails.new judging named out carried }
+    ensures trails { (judging : JudgingKind) (named out : List ℕ) (carried : List Carried) → AreTrailsKept trails.old judging named out carried → AreTrailsKept trails.new judging named out carried }
+    ensures marks { (out : List ℕ) (marks : List Mark) → AreMarksKept unplaced.now trails.old out marks → AreMarksKept unplaced.now trails.new out marks }
 {
     let Some(told) = event.unreachable() else {
         return;
@@ -56,7 +65,8 @@ fn note_undelivered_at(
     number: Option<u64>,
     undelivered: Undelivered,
 )
-    ensures { (judging : JudgingKind) (named out : List ℕ) (carried : List Carried) → AreTrailsKept trails.old judging named out carried → AreTrailsKept trails.new judging named out carried }
+    ensures trails { (judging : JudgingKind) (named out : List ℕ) (carried : List Carried) → AreTrailsKept trails.old judging named out carried → AreTrailsKept trails.new judging named out carried }
+    ensures marks { (u : UnplacedValue) (out : List ℕ) (marks : List Mark) → AreMarksKept u trails.old out marks → AreMarksKept u trails.new out marks }
 {
     let Some(number) = number else {
         return;
@@ -78,6 +88,8 @@ pub(crate) fn discard(
     ensures notes { (s : Noticed) → AreNotesOf notes.old s
         → OnOk result (AreNotesOf notes.new (going (gone_by event.now datagram.now s.times) (finding (reached_by s.times) (sharers_of event.now) s))) }
     ensures trails { (judging : JudgingKind) (named out : List ℕ) (carried : List Carried) → AreTrailsKept trails.old judging named out carried → AreTrailsKept trails.new judging named out carried }
+    ensures marks { (s : Noticed) (out : List ℕ) (marks : List Mark) → AreNotesOf notes.old s → AreMarksKept unplaced.now trails.old out marks
+        → OnOk result (AreMarksKept unplaced.now trails.new out (Discards (gone_by event.now datagram.now s.times) ∷ marks)) }
     ensures fault { notes.new.fault ≡ notes.old.fault }
 {
     notes.find(alloc, event.sharers())?;
@@ -97,7 +109,8 @@ pub(crate) fn discard(
 
 /// Notes it at the transfer with this number, if one is named.
 fn discard_at(trails: &mut BTreeMap<u64, Trail>, number: Option<u64>, spoilt: Spoilt)
-    ensures { (judging : JudgingKind) (named out : List ℕ) (carried : List Carried) → AreTrailsKept trails.old judging named out carried → AreTrailsKept trails.new judging named out carried }
+    ensures trails { (judging : JudgingKind) (named out : List ℕ) (carried : List Carried) → AreTrailsKept trails.old judging named out carried → AreTrailsKept trails.new judging named out carried }
+    ensures each { (n : ℕ) → get nat_cmp trails.new n ≡ option_map (discarding_if (is_it n number) spoilt.frame) (get nat_cmp trails.old n) }
 {
     let Some(number) = number else {
         return;
@@ -121,6 +134,10 @@ pub(crate) fn ask(
     ensures trails { (judging : JudgingKind) (named out : List ℕ) (c : Carried) (carried : List Carried)
         → place.now ≡ (framed_after named carried c).placed.place → IsPassing request.now c → WereOpened out (whole_of named carried)
         → AreTrailsKept trails.old judging named out carried → OnOk result (AreTrailsBegun trails.new judging named out c carried) }
+    ensures marks { (named out : List ℕ) (c : Carried) (carried : List Carried) (s : Noticed) (marks : List Mark)
+        → place.now ≡ (framed_after named carried c).placed.place → WereOpened out (whole_of named carried)
+        → AreNotesOf notes.old s → s.last < request.now.frame → gone_of marks ≡ s.gone → AreMarksKept unplaced.old trails.old out marks
+        → OnOk result (AreMarksKept unplaced.new trails.new out (beginning place.now (unwrap_or request.now.time (last_of s.times)) marks)) }
     ensures fault { notes.new.fault ≡ notes.old.fault }
 {
     match place {
@@ -147,6 +164,10 @@ fn open(
     ensures trails { (judging : JudgingKind) (named out : List ℕ) (c : Carried) (carried : List Carried)
         → Opens transfer ≡ (framed_after named carried c).placed.place → IsPassing request.now c → WereOpened out (whole_of named carried)
         → AreTrailsKept trails.old judging named out carried → OnOk result (AreTrailsBegun trails.new judging named out c carried) }
+    ensures marks { (named out : List ℕ) (c : Carried) (carried : List Carried) (s : Noticed) (marks : List Mark)
+        → Opens transfer ≡ (framed_after named carried c).placed.place → WereOpened out (whole_of named carried)
+        → AreNotesOf notes.old s → s.last < request.now.frame → gone_of marks ≡ s.gone → AreMarksKept unplaced.old trails.old out marks
+        → OnOk result (AreMarksKept unplaced.new trails.new out (beginning (Opens transfer) (unwrap_or request.now.time (last_of s.times)) marks)) }
     ensures fault { notes.new.fault ≡ notes.old.fault }
 {
     let payload = Vec::from_slice(alloc, request.payload)?;
@@ -165,6 +186,7 @@ fn open(
 fn note_later(trail: &mut Trail, later: &Result<Option<u64>, AllocError>)
     ensures stands { (judging : JudgingKind) (x : TransferValue) (named : List ℕ) (carried : List Carried) → IsTrailOf trail.old judging x named carried
         → IsTrailOf trail.new judging x named carried }
+    ensures is { (frame : Option ℕ) → later.now ≡ Ok frame → trail.new ≡ leaving_out_some frame trail.old }
     ensures blame { trail.new.blame ≡ trail.old.blame }
     ensures first { trail.new.first ≡ trail.old.first }
     ensures request { trail.new.request ≡ trail.old.request }
@@ -183,11 +205,18 @@ pub(crate) fn hand_over(
     found: &Attributed,
     passing: &Passing<'_>,
 ) -> Result<(), AllocError>
-    ensures { (named out : List ℕ) (history : List Step) (c : Carried) (carried : List Carried)
+    ensures trails { (named out : List ℕ) (history : List Step) (c : Carried) (carried : List Carried)
         → IsAttributed named (datagrams_of carried) c.datagram found.now → IsPassing passing.now c
+        → passing.now.is_intact ≡ intact_in (framed_after named carried c)
         → AuditsAfter audit.now named out history (datagrams_of (c ∷ carried))
         → AreTrailsBegun trails.old audit.now.judge.judging named out c carried
         → OnOk result (AreTrailsKept trails.new audit.now.judge.judging named out (c ∷ carried)) }
+    ensures marks { (named out : List ℕ) (history : List Step) (c : Carried) (carried : List Carried) (times : List ℕ) (marks : List Mark)
+        → IsAttributed named (datagrams_of carried) c.datagram found.now → IsPassing passing.now c
+        → AuditsAfter audit.now named out history (datagrams_of (c ∷ carried))
+        → AreTrailsBegun trails.old audit.now.judge.judging named out c carried
+        → IsClockAfter clock.now times → AreMarksKept unplaced.old trails.old out marks
+        → OnOk result (AreMarksKept unplaced.new trails.new out (straying found.now.place c times (joining found.now.place c.time marks))) }
 {
     match about(&found.place) {
         Some(number) => hand(trails, audit, number, found, passing),
@@ -203,12 +232,20 @@ fn hand(
     found: &Attributed,
     passing: &Passing<'_>,
 ) -> Result<(), AllocError>
-    ensures { (named out : List ℕ) (history : List Step) (c : Carried) (carried : List Carried)
+    ensures trails { (named out : List ℕ) (history : List Step) (c : Carried) (carried : List Carried)
+        → ((n : ℕ) → is_about_it n (framed_after named carried c) ≡ (number == n))
+        → IsAttributed named (datagrams_of carried) c.datagram found.now → IsPassing passing.now c
+        → passing.now.is_intact ≡ intact_in (framed_after named carried c)
+        → AuditsAfter audit.now named out history (datagrams_of (c ∷ carried))
+        → AreTrailsBegun trails.old audit.now.judge.judging named out c carried
+        → OnOk result (AreTrailsKept trails.new audit.now.judge.judging named out (c ∷ carried)) }
+    ensures marks { (named out : List ℕ) (history : List Step) (c : Carried) (carried : List Carried) (u : UnplacedValue) (marks : List Mark)
         → ((n : ℕ) → is_about_it n (framed_after named carried c) ≡ (number == n))
         → IsAttributed named (datagrams_of carried) c.datagram found.now → IsPassing passing.now c
         → AuditsAfter audit.now named out history (datagrams_of (c ∷ carried))
         → AreTrailsBegun trails.old audit.now.judge.judging named out c carried
-        → OnOk result (AreTrailsKept trails.new audit.now.judge.judging named out (c ∷ carried)) }
+        → AreMarksKept u trails.old out marks
+        → OnOk result (AreMarksKept u trails.new out (joining found.now.place c.time marks)) }
 {
     match trails.get_mut(&number) {
         Some(trail) => match audit.watched(number) {
@@ -227,7 +264,10 @@ fn leave_out(
     place: &Place,
     passing: &Passing<'_>,
 ) -> Result<(), AllocError>
-    ensures { (judging : JudgingKind) (named out : List ℕ) (carried : List Carried) → AreTrailsKept trails.old judging named out carried → AreTrailsKept trails.new judging named out carried }
+    ensures trails { (judging : JudgingKind) (named out : List ℕ) (carried : List Carried) → AreTrailsKept trails.old judging named out carried → AreTrailsKept trails.new judging named out carried }
+    ensures marks { (c : Carried) (out times : List ℕ) (marks : List Mark) → IsPassing passing.now c → IsClockAfter clock.now times
+        → AreMarksKept unplaced.old trails.old out marks
+        → OnOk result (AreMarksKept unplaced.new trails.new out (straying place.now c times marks)) }
 {
     let Place::Nowhere = place else {
         return Ok(());
@@ -250,7 +290,8 @@ fn leave_out(
 
 /// Notes it at the transfer with this number, if one is named and this moment is within its time.
 fn leave_out_at(trails: &mut BTreeMap<u64, Trail>, number: Option<u64>, frame: u64, moment: u64)
-    ensures { (judging : JudgingKind) (named out : List ℕ) (carried : List Carried) → AreTrailsKept trails.old judging named out carried → AreTrailsKept trails.new judging named out carried }
+    ensures trails { (judging : JudgingKind) (named out : List ℕ) (carried : List Carried) → AreTrailsKept trails.old judging named out carried → AreTrailsKept trails.new judging named out carried }
+    ensures each { (n : ℕ) → get nat_cmp trails.new n ≡ option_map (leaving_out_if (is_it n number) frame moment) (get nat_cmp trails.old n) }
 {
     let Some(number) = number else {
         return;

@@ -1,33 +1,32 @@
-use Rattle.std.proofs.Common.{◌≡◌, ◌==◌, ◌++◌, ◌∷◌, [], ◌∙◌, ℕ, List, ap, codes, flat_map, if◌then◌else◌, refl, sym}
+use Rattle.std.proofs.Common.{◌≡◌, ◌==◌, ◌++◌, ◌∷◌, [], ◌∙◌, ℕ, List, ap, codes, if◌then◌else◌, refl, sym}
 use Rattle.std.specs.Fmt.{digits}
-use Rattle.audit_recording.specs.Session.Lines.{dropped_lines, fault_lines, kind_lines, left_out_lines, lines_of, pair_lines, ports_text}
+use Rattle.audit_recording.specs.Session.Lines.{begun_told, behind_told, dropped_lines, fault_lines, left_out_lines, lines_of, ports_text}
+use Rattle.audit_recording.specs.Session.Hidden.{Hidden}
 use Rattle.audit_recording.specs.Session.Noted.{Noticed}
 use Rattle.audit_recording.specs.Session.Told.{Told, nothing_told}
-use Rattle.audit_recording.specs.declared.session.begun.Pair.{Pair}
-use Rattle.audit_recording.specs.declared.session.behind.Kind.{Kind}
+use Rattle.audit_recording.specs.Session.Strays.{Stray, asked_ports}
 use Rattle.audit_recording.specs.declared.session.notes.Notes.{Notes}
 use Rattle.tftp_rows.specs.Remarks.{none_lines, remarks_text, rest_lines}
 use Rattle.tftp_rows.specs.Worked.{AreOfCopyAndLoss}
 use Rattle.tftp_rows.proofs.worked_files.worked_remarks.Goals as goal
 
 -- the lines by all that they depend on
-abbrev lines_by_parts : Told → List Pair → List Kind → ℕ → List (List ℕ) → List ℕ → ℕ → List (List ℕ)
-lines_by_parts t pairs kinds dropped faults asked told =
+abbrev lines_by_parts : Told → List Stray → List Hidden → ℕ → List (List ℕ) → ℕ → List (List ℕ)
+lines_by_parts t strays hidden dropped faults told =
     (left_out_lines t
-    ++ ((lines_of t.of_none (codes "of UDP of no transfer") ++ (flat_map pair_lines pairs ++ lines_of t.backwards (codes "older than the one before; reordercap puts them in order")))
-    ++ ((lines_of t.lost (codes "not there whole, so that datagrams may be missing") ++ (flat_map kind_lines kinds ++ dropped_lines dropped))
+    ++ ((lines_of t.of_none (codes "of UDP of no transfer") ++ (begun_told strays ++ lines_of t.backwards (codes "older than the one before; reordercap puts them in order")))
+    ++ ((lines_of t.lost (codes "not there whole, so that datagrams may be missing") ++ (behind_told hidden ++ dropped_lines dropped))
     ++ faults)))
-    ++ (if told == 0 then none_lines (ports_text asked) else [])
+    ++ (if told == 0 then none_lines (ports_text (asked_ports strays)) else [])
 
-of_copy_and_loss : (n : Notes) (s : Noticed) (told : ℕ) → AreOfCopyAndLoss n s → rest_lines n s told ≡ lines_by_parts (record nothing_told { copies = 3 ∷ []; lost = 8 ∷ [] }) [] [] 0 [] [] told
+of_copy_and_loss : (n : Notes) (s : Noticed) (told : ℕ) → AreOfCopyAndLoss n s → rest_lines n s told ≡ lines_by_parts (record nothing_told { copies = 3 ∷ []; lost = 8 ∷ [] }) [] [] 0 [] told
 of_copy_and_loss n s told is =
     let t = record nothing_told { copies = 3 ∷ []; lost = 8 ∷ [] } in
-    ap (λ t. lines_by_parts t n.begun.pairs.items n.behind.kinds.items n.dropped (fault_lines n.fault) n.asked.items told) is.told
-    ∙ ap (λ pairs. lines_by_parts t pairs n.behind.kinds.items n.dropped (fault_lines n.fault) n.asked.items told) is.begun
-    ∙ ap (λ kinds. lines_by_parts t [] kinds n.dropped (fault_lines n.fault) n.asked.items told) is.behind
-    ∙ ap (λ dropped. lines_by_parts t [] [] dropped (fault_lines n.fault) n.asked.items told) is.dropped
-    ∙ ap (λ faults. lines_by_parts t [] [] 0 faults n.asked.items told) (ap fault_lines is.fault)
-    ∙ ap (λ asked. lines_by_parts t [] [] 0 [] asked told) is.asked
+    ap (λ t. lines_by_parts t s.strays s.hidden n.dropped (fault_lines n.fault) told) is.told
+    ∙ ap (λ strays. lines_by_parts t strays s.hidden n.dropped (fault_lines n.fault) told) is.strays
+    ∙ ap (λ hidden. lines_by_parts t [] hidden n.dropped (fault_lines n.fault) told) is.hidden
+    ∙ ap (λ dropped. lines_by_parts t [] [] dropped (fault_lines n.fault) told) is.dropped
+    ∙ ap (λ faults. lines_by_parts t [] [] 0 faults told) (ap fault_lines is.fault)
 
 pub returns-clause-two : goal.returns-clause-two
 unfolding digits

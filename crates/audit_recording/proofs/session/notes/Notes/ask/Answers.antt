@@ -13,5 +13,8 @@ returns-clause-stands c = λ s are later.
       intact = are.intact;
       clock = are.clock;
       kinds = are.kinds;
+      behind = are.behind;
+      begun = are.begun;
+      asked = are.asked;
     })
     (c.ask.ensures s.events are.losses (after_all s.last c.args.trail.now.first s.events are.frames later))

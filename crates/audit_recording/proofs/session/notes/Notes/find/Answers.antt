@@ -26,6 +26,9 @@ loop-frame-preserved c =
             intact = was.intact;
             clock = was.clock;
             kinds = was.kinds;
+            behind = was.behind;
+            begun = was.begun;
+            asked = was.asked;
           })
           (c.loop-frame.invariant.so_far s are);
       clock = c.loop-frame.invariant.clock;

@@ -13,10 +13,10 @@ returns c s are =
     let second : List (List ℕ) = map string_bytes c.put_aside.new.lines.items in
     let third : List (List ℕ) = map string_bytes c.put_lost.new.lines.items in
     let fourth : List (List ℕ) = map string_bytes c.put_fault.new.lines.items in
-    let aside = aside_lines t n.begun in
-    let lost = lost_lines t n.behind n.dropped in
+    let aside = aside_lines s in
+    let lost = lost_lines s n.dropped in
     let fault = fault_lines n.fault in
     puts_both none first fourth (left_out_lines t) (aside ++ (lost ++ fault)) (c.in_ok-put_left_out.ensures t are.kinds)
-    (puts_both first second fourth aside (lost ++ fault) (c.in_ok-put_aside.ensures t are.kinds)
-    (puts_both second third fourth lost fault (c.in_ok-put_lost.ensures t are.kinds) c.in_ok-put_fault.ensures))
-    ∙ ap (λ l. map string_bytes l ++ lines_told t n) c.new-lines.ensures.items
+    (puts_both first second fourth aside (lost ++ fault) (c.in_ok-put_aside.ensures s are)
+    (puts_both second third fourth lost fault (c.in_ok-put_lost.ensures s are) c.in_ok-put_fault.ensures))
+    ∙ ap (λ l. map string_bytes l ++ lines_told s n.dropped n.fault) c.new-lines.ensures.items

@@ -27,6 +27,9 @@ loop-frame-preserved c =
             intact = was.intact;
             clock = was.clock;
             kinds = more_lost c.loop-frame.self.kinds c.add.new.self (told_in more) (get_or frames i 0 ∷ lost_frames more.events) was.kinds (c.in_ok-add.ensures (lost_frames more.events) was.kinds.lost);
+            behind = was.behind;
+            begun = was.begun;
+            asked = was.asked;
           })
           (c.loop-frame.invariant.so_far s are);
       clock = c.loop-frame.invariant.clock;

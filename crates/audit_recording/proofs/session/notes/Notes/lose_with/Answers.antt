@@ -4,6 +4,7 @@ use Rattle.audit_recording.specs.Losses.Noted.{Unread}
 use Rattle.audit_recording.specs.Losses.Noted.Event.{Loses}
 use Rattle.audit_recording.specs.Losses.Kept.{AreLosses}
 use Rattle.audit_recording.specs.Reasons.Clock.{last_of}
+use Rattle.audit_recording.specs.Session.Hidden.{AreBehindOf, hiding}
 use Rattle.audit_recording.specs.Session.Noted.{AreNotesOf, Noticed, giving_up, lost_frames, others, sharers_of, told_in, unread_in}
 use Rattle.audit_recording.specs.Session.Told.{AreFramesOf}
 use Rattle.audit_recording.proofs.LossesLemmas.Changing.{on_ok}
@@ -25,7 +26,9 @@ returns-clause-stands c = λ s are low.
     on_ok c.lose.result
     (λ losses. (
       c.hosts.result,
+      c.unread_header.result,
       c.hosts.ensures,
+      c.unread_header.ensures,
       record {
         losses = subst (λ g. AreLosses c.lose.new.self (Loses g ∷ left.events)) same losses;
         frames = (omega arith, up_to_more s.last event.frame.number left.events low were.frames);
@@ -33,6 +36,9 @@ returns-clause-stands c = λ s are low.
         clock = were.clock;
         kinds = more_lost c.lose_others.new.self.kinds c.add.new.self (told_in left) (event.frame.number ∷ lost_frames left.events) were.kinds
             (subst (λ n. AreFramesOf c.add.new.self (n ∷ lost_frames left.events)) c.number-frame.ensures (c.in_ok-add.ensures (lost_frames left.events) were.kinds.lost));
+        behind = subst (λ n. AreBehindOf c.note.new.self (hiding c.unread_header.result n s.hidden)) c.number-frame.ensures (c.in_ok-note.ensures s.hidden were.behind);
+        begun = were.begun;
+        asked = were.asked;
       },
     ))
     (c.lose.ensures left.events were.losses)

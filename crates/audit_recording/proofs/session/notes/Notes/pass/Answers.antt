@@ -1,6 +1,7 @@
-use Rattle.std.proofs.Common.{◌∷◌, Option, ℕ, subst, sym}
+use Rattle.std.proofs.Common.{◌∷◌, Option, ℕ, ap, subst, sym, ◌∙◌}
 use Rattle.audit_recording.specs.Reasons.Spoilt.{checked}
 use Rattle.audit_recording.specs.Losses.Kept.{AreLosses}
+use Rattle.audit_recording.specs.Session.Hidden.{AreBehindOf}
 use Rattle.audit_recording.specs.Session.Intact.{AreIntactAfter}
 use Rattle.audit_recording.specs.Session.Noted.{AreNotesOf, going_back, told_in, with_time}
 use Rattle.audit_recording.proofs.LossesLemmas.Changing.{on_ok}
@@ -19,5 +20,8 @@ returns-in-Some-clause-stands c s are =
       intact = subst (λ i. AreIntactAfter i (checked p.frame p.source.address p.is_intact ∷ s.seen) s.gone) (sym c.pass_at.ensures.intact) (c.in_ok-note.ensures s.seen s.gone are.intact);
       clock = c.pass_at.ensures.clock s.times are.clock;
       kinds = kinds;
+      behind = subst (λ b. AreBehindOf b s.hidden) (sym c.pass_at.ensures.behind) are.behind;
+      begun = ap (λ b. b.pairs.items) c.pass_at.ensures.begun ∙ are.begun;
+      asked = ap (λ a. a.items) c.pass_at.ensures.asked ∙ are.asked;
     }))
     (c.pass_at.ensures.kinds s.times (told_in s) are.clock are.kinds)

@@ -27,6 +27,9 @@ returns-clause-stands c = λ s are low.
         intact = are.intact;
         clock = are.clock;
         kinds = are.kinds;
+        behind = are.behind;
+        begun = are.begun;
+        asked = are.asked;
       },
     ))
     (c.wait.ensures s.events are.losses)

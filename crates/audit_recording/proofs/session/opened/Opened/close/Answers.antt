@@ -12,9 +12,10 @@ returns-clause-closed g c named out history carried s is =
       noticed = is.noticed;
       kept = record {
         audit = is.kept.audit;
-        notes = record { losses = kept.losses; frames = kept.frames; intact = kept.intact; clock = kept.clock; kinds = kept.kinds };
+        notes = record { losses = kept.losses; frames = kept.frames; intact = kept.intact; clock = kept.clock; kinds = kept.kinds; behind = kept.behind; begun = kept.begun; asked = kept.asked };
         trails = is.kept.trails;
         texts = is.kept.texts;
+        beside = is.kept.beside;
       };
       may_lose = refl;
       dropped = c.lost-dropped.ensures;

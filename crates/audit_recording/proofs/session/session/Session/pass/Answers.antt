@@ -1,4 +1,4 @@
-use Rattle.std.proofs.Common.{◌≡◌, ◌∷◌, arith, ap, sym, subst, ◌∙◌}
+use Rattle.std.proofs.Common.{◌≡◌, ◌∷◌, ℕ, List, arith, ap, sym, subst, unwrap_or, ◌∙◌}
 use Rattle.audit_flows.specs.{Attributed}
 use Rattle.audit_views.specs.Parties.{host_name}
 use Rattle.audit_views.specs.Views.{IsFed}
@@ -6,13 +6,18 @@ use Rattle.audit_views.specs.{Held}
 use Rattle.net_udp.specs.Recording.{checksum_told}
 use Rattle.audit_recording.specs.Reasons.Spoilt.{checked}
 use Rattle.audit_recording.specs.Session.Noted.{AreNotesOf, Noticed, finding, going_back, sharers_of, with_time}
-use Rattle.audit_recording.specs.Session.Recording.{asking, intact_at, passing_at, reached_by, setting_aside}
+use Rattle.audit_recording.specs.Reasons.Clock.{IsClockAfter, last_of}
+use Rattle.audit_recording.specs.Session.Beside.{AreMarksKept, Mark}
+use Rattle.audit_recording.specs.Session.Recording.{asking, beginning, joining, marking, passing_at, reached_by, setting_aside, stray_in, straying}
 use Rattle.audit_recording.specs.Audit.Audited.{IsAttributed}
 use Rattle.audit_recording.specs.Blame.Frames.{Framed, datagrams_of, framed_after}
 use Rattle.audit_recording.specs.Blame.Kept.{IsPassing}
+use Rattle.audit_recording.specs.Blame.Spoilt.{intact_at}
+use Rattle.audit_recording.specs.Session.Strays.{Stray}
 use Rattle.audit_recording.specs.Session.Texts.{AreTextsKept}
 use Rattle.audit_recording.specs.declared.blame.passing.Passing.{Passing}
 use Rattle.audit_recording.specs.declared.session.kept.Kept.{Kept}
+use Rattle.audit_recording.proofs.SessionLemmas.Marking.{asking_times, notes_marked}
 use Rattle.audit_recording.proofs.SessionLemmas.Recording.{reached_is}
 use Rattle.audit_recording.proofs.SessionLemmas.Faults.{same_fault}
 use Rattle.audit_recording.proofs.session.session.Session.pass.Goals as goal
@@ -27,15 +32,20 @@ returns-clause-notes c carried s x a is carries later are =
     let frame = c.number.ensures ∙ sym carries.frame in
     let time = c.time.ensures ∙ sym carries.time in
     let source = c.party_of-source.ensures.end ∙ sym carries.taken.source in
+    let target = c.party_of-target.ensures.end ∙ sym carries.taken.target in
+    let mine : Stray = record { source = c.party_of-source.result.end; target = c.party_of-target.result.end; payload = c.args.datagram.now.payload.now; frame = c.number.result } in
+    let stray : mine ≡ stray_in x =
+    λ i. record { source = source i; target = target i; payload = sym carries.taken.payload i; frame = frame i } in
     let intact = c.intact_in.ensures ∙ ap (λ (p : Attributed). intact_at p.place (checksum_told event.sent)) same in
     let passed : AreNotesOf c.pass.new.self (passing_at a.place (checksum_told event.sent) x whole) =
     subst (λ (t : Noticed). AreNotesOf c.pass.new.self t)
     (λ i. record whole { seen = checked (frame i) ((source i).address) (intact i) ∷ whole.seen; times = with_time (time i) whole.times; backwards = going_back (frame i) (time i) whole.times whole.backwards })
     (c.in_ok-pass.ensures.stands whole found) in
     let number = c.number.ensures in
-    let asked = c.in_ok-ask.ensures.notes (passing_at a.place (checksum_told event.sent) x whole) passed (omega arith) in
-    let followed = c.in_ok-follow.ensures.notes (asking c.in-Some.found.place c.number.result (passing_at a.place (checksum_told event.sent) x whole)) asked in
-    subst (λ (t : Noticed). AreNotesOf c.follow.new.self.notes t) (λ i. setting_aside ((same i).place) (frame i) (asking ((same i).place) (frame i) (passing_at a.place (checksum_told event.sent) x whole))) followed
+    let more : Noticed = marking a.place x (passing_at a.place (checksum_told event.sent) x whole) in
+    let asked = c.in_ok-ask.ensures.notes more (notes_marked c.pass.new.self a.place x (passing_at a.place (checksum_told event.sent) x whole) passed) (omega arith) in
+    let followed = c.in_ok-follow.ensures.notes (asking c.in-Some.found.place c.number.result more) asked in
+    subst (λ (t : Noticed). AreNotesOf c.follow.new.self.notes t) (λ i. setting_aside ((same i).place) (stray i) (asking ((same i).place) (frame i) more)) followed
 
 pub returns-clause-trails : goal.returns-clause-trails
 returns-clause-trails c named out history carried d a is carries at handed audit kept =
@@ -62,8 +72,9 @@ returns-clause-trails c named out history carried d a is carries at handed audit
       payload = sym carries.taken.payload;
     } in
     let begun = c.in_ok-ask.ensures.trails judging named out d carried (ap (λ (p : Attributed). p.place) same ∙ at.0) passes handed kept in
+    let intact = c.intact_in.ensures ∙ (λ i. intact_at ((ap (λ (p : Attributed). p.place) same ∙ at.0) i) (sym carries.checksum i)) in
     c.in_ok-follow.ensures.trails named out history d carried
-    (subst (λ (f : Attributed). IsAttributed named (datagrams_of carried) d.datagram f) (sym same) at) passes audit begun
+    (subst (λ (f : Attributed). IsAttributed named (datagrams_of carried) d.datagram f) (sym same) at) passes intact audit begun
 
 pub returns-clause-texts : goal.returns-clause-texts
 returns-clause-texts c named carried d a is carries at kept =
@@ -114,3 +125,52 @@ returns-in_err-note-clause-why c file = same_fault c.from_residual-in_err-note.r
 
 pub returns-in_err-follow-clause-why : goal.returns-in_err-follow-clause-why
 returns-in_err-follow-clause-why c file = same_fault c.from_residual-in_err-follow.result _ _ c.from_residual-in_err-follow.ensures.1 tt
+
+pub returns-clause-marks : goal.returns-clause-marks
+returns-clause-marks c named out history carried s d a is carries at handed audit trails_kept later are gone kept =
+    let event = c.args.event.now in
+    let same : c.in-Some.found ≡ a = cc in
+    let judging = c.args.self.now.audit.judge.judging in
+    let whole : Noticed = finding (reached_by s.times) (sharers_of event) s in
+    let found : AreNotesOf c.find.new.self whole =
+    subst (λ (t : Noticed). AreNotesOf c.find.new.self t) (λ i. finding (reached_is c.args.self.now.notes.clock s.times are.clock i) (c.sharers.ensures i) s) (c.in_ok-find.ensures.stands s are) in
+    let frame = c.number.ensures ∙ sym carries.frame in
+    let time = c.time.ensures ∙ sym carries.time in
+    let source = c.party_of-source.ensures.end ∙ sym carries.taken.source in
+    let intact = c.intact_in.ensures ∙ ap (λ (p : Attributed). intact_at p.place (checksum_told event.sent)) same in
+    let passed : AreNotesOf c.pass.new.self (passing_at a.place (checksum_told event.sent) d whole) =
+    subst (λ (t : Noticed). AreNotesOf c.pass.new.self t)
+    (λ i. record whole { seen = checked (frame i) ((source i).address) (intact i) ∷ whole.seen; times = with_time (time i) whole.times; backwards = going_back (frame i) (time i) whole.times whole.backwards })
+    (c.in_ok-pass.ensures.stands whole found) in
+    let number = c.number.ensures in
+    let before : Noticed = passing_at a.place (checksum_told event.sent) d whole in
+    let passing : Passing = record {
+      frame = c.number.result;
+      time = c.time.result;
+      is_doubtful = c.is_doubtful.result;
+      has_error = c.has_error.result;
+      is_intact = c.intact_in.result;
+      source = c.party_of-source.result.end;
+      target = c.party_of-target.result.end;
+      payload = c.args.datagram.now.payload;
+    } in
+    let passes : IsPassing passing d = record {
+      frame = frame;
+      time = time;
+      is_doubtful = c.is_doubtful.ensures ∙ sym carries.is_doubtful;
+      has_error = c.has_error.ensures ∙ sym carries.has_error;
+      source = source;
+      target = c.party_of-target.ensures.end ∙ sym carries.taken.target;
+      payload = sym carries.taken.payload;
+    } in
+    let place = ap (λ (p : Attributed). p.place) same ∙ at.0 in
+    let asked = c.in_ok-ask.ensures.notes before passed (omega arith) in
+    let clock : IsClockAfter c.ask.new.notes.clock before.times =
+    subst (λ (l : List ℕ). IsClockAfter c.ask.new.notes.clock l) (asking_times c.in-Some.found.place c.number.result before) asked.clock in
+    let begun = c.in_ok-ask.ensures.trails judging named out d carried place passes handed trails_kept in
+    let first = c.in_ok-ask.ensures.marks named out d carried before s.beside place handed passed (omega arith) gone kept in
+    let followed = c.in_ok-follow.ensures.marks named out history d carried before.times
+    (beginning c.in-Some.found.place (unwrap_or c.time.result (last_of before.times)) s.beside)
+    (subst (λ (f : Attributed). IsAttributed named (datagrams_of carried) d.datagram f) (sym same) at) passes audit begun clock first in
+    subst (λ (l : List Mark). AreMarksKept c.follow.new.self.unplaced c.follow.new.self.trails out l)
+    (λ i. straying ((same i).place) d before.times (joining ((same i).place) d.time (beginning ((same i).place) (unwrap_or (time i) (last_of before.times)) s.beside))) followed

@@ -1,8 +1,12 @@
 use Rattle.std.proofs.Common.{◌≡◌, ◌≤◌, ◌∷◌, Some, None, false, true, true≢false, IsSome, inl, inr, refl, sym, subst, ◌∙◌}
+use Rattle.std.specs.BTreeMap.{get}
+use Rattle.std.specs.Ordering.{nat_cmp}
 use Rattle.audit_views.specs.Parties.{host_name}
 use Rattle.audit_recording.specs.Audit.{AuditsAfter}
 use Rattle.audit_recording.specs.Blame.Frames.{datagrams_of, whole_of}
 use Rattle.audit_recording.specs.Judges.{IsWatching, Watched, is_among, opened}
+use Rattle.audit_recording.specs.Session.Beside.{AreMarksKept}
+use Rattle.audit_recording.specs.Session.HandedOut.{IsHandedOut, IsToldBeside}
 use Rattle.audit_recording.specs.Session.Intact.{discarding}
 use Rattle.audit_recording.specs.Session.Kept.{IsSessionOf}
 use Rattle.audit_recording.specs.Session.Trails.{AreTrailsKept, IsTrailAfter}
@@ -10,8 +14,10 @@ use Rattle.audit_recording.specs.declared.blame.trail.Trail.{Trail}
 use Rattle.audit_recording.specs.declared.judges.judging.Judging.{Judging}
 use Rattle.audit_recording.specs.declared.session.session.Ended.{Ended}
 use Rattle.audit_recording.specs.declared.session.session.Session.{Session}
+use Rattle.audit_recording.proofs.SessionLemmas.Beside.{marks_unchanged, one_less}
+use Rattle.audit_recording.proofs.SessionLemmas.HandedOut.{handed_out, told_beside}
 use Rattle.audit_recording.proofs.SessionLemmas.Recording.{if_watched}
-use Rattle.audit_recording.proofs.SessionLemmas.Trails.{first_trail, if_both, if_some_so, no_entries, no_trails, none_mapped, others_kept, stays_discarding, trail_here, trails_unchanged}
+use Rattle.audit_recording.proofs.SessionLemmas.Trails.{first_number, first_trail, if_both, if_some_so, no_entries, no_trails, none_mapped, others_kept, stays_discarding, trail_here, trails_unchanged}
 use Rattle.audit_recording.proofs.session.session.Session.pop.Goals as goal
 
 pub returns-clause-stands : goal.returns-clause-stands
@@ -33,6 +39,10 @@ returns-clause-stands c named out history carried s is =
       trails = subst (λ (j : Judging). AreTrailsKept c.pop_first.new.self j named (w.transfer.number ∷ out) carried) (sym c.pop_first-2.ensures.judging)
           (others_kept c.args.self.now.trails judging named out carried k c.in_ok-number.trail c.in_ok-number.ensures.value c.in_ok-number.ensures.least is.trails w.transfer is_so.1.0.0 is_so.1.1.0 is_so.1.1.1 c.pop_first.new.self c.in_ok-number.ensures.updates.0);
       texts = is.texts;
+      beside = subst (λ n. AreMarksKept c.end.new.self c.pop_first.new.self (n ∷ out) s.beside)
+          (first_number c.args.self.now.trails judging named out carried k c.in_ok-number.trail c.in_ok-number.ensures.value c.in_ok-number.ensures.least is.trails w.transfer is_so.1.0.0 is_so.1.1.0 is_so.1.1.1)
+          (one_less c.args.self.now.unplaced c.end.new.self c.args.self.now.trails c.pop_first.new.self out s.beside c.in_ok-number.trail.transfer.client k is.beside
+          (c.end.ensures is.beside.history is.beside.stands) c.in_ok-number.ensures.updates.0);
     })
     (if_both Out (λ w. Is w × (Once w × First w)) c.pop_first-2.result (c.pop_first-2.ensures.stands named out history passed is.audit)
     (if_both Is (λ w. Once w × First w) c.pop_first-2.result (c.pop_first-2.ensures.watched named out history passed is.audit)
@@ -77,6 +87,33 @@ returns-clause-trail c named out history carried s is =
     (if_both Once First c.pop_first-2.result (c.pop_first-2.ensures.once named out history passed is.audit) (c.pop_first-2.ensures.first named out history passed k is.audit (subst IsSome (sym held.0) refl) held.1)))))
     c.joined.ensures.trail)
 
+pub returns-clause-discarded : goal.returns-clause-discarded
+returns-clause-discarded c named out history carried s is seen =
+    let trails = c.args.self.now.trails in
+    let judging = c.args.self.now.audit.judge.judging in
+    let k = c.in_ok-number.number in
+    let t = c.in_ok-number.trail in
+    let was = c.in_ok-number.ensures.value in
+    let held = trail_here trails judging named out carried k t was is.trails in
+    let passed = datagrams_of carried in
+    let Is = λ (w : Watched). (opened w.transfer.number (whole_of named carried) ≡ Some w.transfer) × IsWatching w judging w.transfer host_name (whole_of named carried) in
+    let Once = λ (w : Watched). is_among w.transfer.number out ≡ false in
+    let First = λ (w : Watched). w.transfer.number ≤ k in
+    let Are = λ (w : Watched). (get nat_cmp trails w.transfer.number ≡ Some t) × IsTrailAfter t judging w.transfer named carried in
+    if_some_so (λ (e : Ended). Are e.watched × (e.trail ≡ c.tell.new.trail)) (λ (e : Ended). IsHandedOut e trails named carried) c.joined.result
+    (λ e is_so. handed_out e trails t c.tell.new.trail judging named carried s seen is_so.0.0 is_so.0.1 is_so.1 (c.tell.ensures.is s.seen s.gone is.notes.intact))
+    (if_both (λ (e : Ended). Are e.watched) (λ (e : Ended). e.trail ≡ c.tell.new.trail) c.joined.result
+    (if_watched (λ (e : Ended). e.watched) Are c.joined.result c.pop_first-2.result c.joined.ensures.watched
+    (if_some_so (λ w. Is w × (Once w × First w)) Are c.pop_first-2.result
+    (λ w is_so. (
+      subst (λ n. get nat_cmp trails n ≡ Some t)
+          (first_number trails judging named out carried k t was c.in_ok-number.ensures.least is.trails w.transfer is_so.0.0 is_so.1.0 is_so.1.1) was,
+      first_trail trails judging named out carried k t was c.in_ok-number.ensures.least is.trails w.transfer is_so.0.0 is_so.1.0 is_so.1.1,
+    ))
+    (if_both Is (λ w. Once w × First w) c.pop_first-2.result (c.pop_first-2.ensures.watched named out history passed is.audit)
+    (if_both Once First c.pop_first-2.result (c.pop_first-2.ensures.once named out history passed is.audit) (c.pop_first-2.ensures.first named out history passed k is.audit (subst IsSome (sym held.0) refl) held.1)))))
+    c.joined.ensures.trail)
+
 pub returns-in_err-number-clause-all : goal.returns-in_err-number-clause-all
 returns-in_err-number-clause-all c named out history carried s is none n =
     no_trails c.args.self.now.audit.judge.judging named out carried n _ (no_entries c.args.self.now.trails n (λ some. let no : false ≡ true = c.in_err-number.ensures.variant.1 some in absurd (cc))) (is.trails n)
@@ -91,6 +128,7 @@ returns-in_err-number-clause-none c named out history carried s is none = record
   notes = is.notes;
   trails = trails_unchanged c.args.self.now.trails c.pop_first.new.self c.args.self.now.audit.judge.judging named out carried c.in_err-number.ensures.unchanged is.trails;
   texts = is.texts;
+  beside = marks_unchanged c.args.self.now.unplaced c.args.self.now.trails c.pop_first.new.self out s.beside c.in_err-number.ensures.unchanged is.beside;
 }
 
 pub returns-clause-none : goal.returns-clause-none
@@ -100,3 +138,8 @@ returns-clause-none c named out history carried s is none =
       | inl closed ↦ (let both : Some c.in_ok-number.trail.transfer ≡ None = sym held.0 ∙ closed in absurd (cc))
       | inr gone ↦ absurd (true≢false (sym gone ∙ held.1))
     ]
+
+pub returns-clause-beside : goal.returns-clause-beside
+returns-clause-beside c named out history carried s is seen =
+    if_some_so (λ (e : Ended). IsHandedOut e c.args.self.now.trails named carried) (λ (e : Ended). IsToldBeside e.trail e.watched.transfer named carried s.beside) c.joined.result
+    (λ e told. told_beside e c.args.self.now.trails named carried s.beside told (is.beside.marked e.watched.transfer.number)) (returns-clause-discarded c named out history carried s is seen)
