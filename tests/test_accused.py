@@ -42,8 +42,10 @@ BACK = f"rule {Rule.GONE_BACK.number} {Rule.GONE_BACK.printed}"
 ELSEWHERE = f"rule {Rule.WRONG_PORT.number} {Rule.WRONG_PORT.printed}"
 LENGTH = f"rule {Rule.BLOCK_LENGTH.number} {Rule.BLOCK_LENGTH.printed}"
 OVERRUN = f"rule {Rule.WINDOW_OVERRUN.number} {Rule.WINDOW_OVERRUN.printed}"
+CHANGED = f"rule {Rule.BLOCK_CHANGED.number} {Rule.BLOCK_CHANGED.printed}"
+CHANGED_SUM = "frame 2 has a wrong checksum, so that its host may have discarded it"
 DISCARDED = r"with a wrong checksum, that a host discarded \(frame 4\)"
-FOR_ITS_SUM = "frame 4 has a wrong checksum, so that its host discarded it"
+FOR_ITS_SUM = "frame 4 has a wrong checksum, so that its host may have discarded it"
 SKIPPED = f"refused datagram 4 rule {Rule.BLOCK_SKIPPED.number} {Rule.BLOCK_SKIPPED.printed}"
 UNPLACED = f"- doubtful {SKIPPED}: it may have been recorded between its two ends: name the place with --end"
 WRITTEN = "- accepted put octet blocks 3 bytes 1025"
@@ -151,6 +153,20 @@ CASES = (
         ("- accepted get octet blocks 3 bytes 4099",), told="",
     ),
     Case(
+        "a-changed-block-and-no-right-checksum",
+        "the network changes a block of a server that makes no checksums, and its host discards it",
+        (f"- doubtful refused datagram 3 {CHANGED}: {CHANGED_SUM}",), told="",
+    ),
+    Case(
+        "a-changed-block-and-a-right-checksum-later", "the same, and 400 s later the server's host makes one",
+        (f"- doubtful refused datagram 3 {CHANGED}: {CHANGED_SUM}", "- accepted get octet blocks 1 bytes 3"), told="",
+    ),
+    Case(
+        "sums-left-and-an-ack-ahead",
+        "a server's host makes one checksum and leaves one to its network card, and its client acknowledges too much",
+        (f"client 192.0.2.7:40000 refused datagram 5 {AHEAD}",), told="",
+    ),
+    Case(
         "a-refusal-after-a-discarded-block", "a host discards a block, and its client acknowledges one too many",
         (f"- doubtful refused datagram 5 {AHEAD}: .*{FOR_ITS_SUM}",), told=f".*: 1 datagram {DISCARDED}\n",
     ),
@@ -195,6 +211,53 @@ CASES = (
     Case(
         "an-ack-ahead-at-one-address", "a client acknowledges too much, and both ends have one address",
         (f"client 192.0.2.1:40000 refused datagram 3 {AHEAD}",), told="",
+    ),
+    Case(
+        "an-error-8-to-a-late-second-answer",
+        "a request is answered twice, the second time after the next one, and the client refuses that by ERROR 8",
+        (NOBODY, NOBODY), is_open=True,
+    ),
+    Case(
+        "a-wrong-refusal-and-a-late-second-answer", "the same, and the first answer came with a wrong checksum",
+        (NOBODY, NOBODY), is_open=True,
+    ),
+    Case(
+        "a-burst-recorded-as-one", "the recorder's kernel joins the blocks of a window, which came one by one",
+        (NOBODY,), is_open=True,
+    ),
+    Case(
+        "a-clock-that-jumps-between-two-transfers",
+        "a block of a first transfer comes late in the second, and between them the clock went forward by 4000 s",
+        (NOBODY, NOBODY), is_open=True,
+    ),
+    Case(
+        "a-changed-block-without-a-checksum",
+        "a server makes no checksums, a block comes changed, and it sends that again",
+        (NOBODY,), is_open=True,
+    ),
+    Case(
+        "a-host-that-serves-and-asks", "the server's host is the client of another server, whose block comes twice",
+        (NOBODY, NOBODY), ends=("server",), is_open=True,
+    ),
+    Case(
+        "a-block-repeated-at-the-loopback", "a queue before the recorder repeats a block within one host",
+        (NOBODY, NOBODY), ends=("",), is_open=True,
+    ),
+    Case(
+        "a-queue-behind-a-bridge", "at `any` a block is recorded before a queue and 120 ms later behind it",
+        (NOBODY,), ends=("server",), is_open=True,
+    ),
+    Case(
+        "an-ack-at-a-link-that-is-not-read", "an acknowledgement is recorded at an interface whose link is not read",
+        (NOBODY,), is_open=True,
+    ),
+    Case(
+        "two-directions-turned-round", "a block is recorded just before the acknowledgement that it answers",
+        (NOBODY,), is_open=True,
+    ),
+    Case(
+        "a-gap-in-the-numbers-of-erspan", "the numbers of a tunnel's packets tell that one is missing",
+        (NOBODY,), is_open=True,
     ),
 )
 

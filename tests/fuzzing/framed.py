@@ -19,6 +19,7 @@ FRAME_KINDS: dict[str, str] = {
     "drops": "the recorder dropped frames, and says how many",
     "checksums": "datagrams come with a wrong checksum, and the host discards them",
     "offload": "a host leaves checksums to its network card, but of what it sends in fragments",
+    "unsummed": "a host makes no checksums, and the network puts a wrong one into datagrams, which are discarded",
     "mirror": "each frame is recorded twice at one interface",
     "one_way": "one direction only is recorded",
 }
@@ -99,6 +100,10 @@ class Recorder:
         hosts = sorted({it.source.host for it in recording.datagrams})
         # The host that recorded, or between one of all.
         self.leaving = (recording.host or self.drawn.choice(hosts)) if "offload" in kinds else None
+        # Over IPv6 a checksum of 0 is none (RFC 8200, section 8.1).
+        summed = [host for host in hosts if ":" in host or host in (recording.host, self.leaving)]
+        unsummed = [host for host in hosts if host not in summed] if "unsummed" in kinds else []
+        self.unsummed = self.drawn.choice(unsummed) if unsummed else None
         self.is_header_left = self.leaving is not None and self.drawn.random() < 0.3
         self.tunnel = recorded.Datagram("198.51.100.1", 1, "198.51.100.2", 1, b"")
         # With the number 4 the packet itself, and with 47 behind a header of GRE that has a key (RFC 2890).
@@ -117,6 +122,8 @@ class Recorder:
                 continue
             if it.payload and self.is_from_afar(it) and self.often("checksums", 0.15):
                 yield from self.packets(it, self.spoiled(it), 0)
+            if it.payload and it.source.host == self.unsummed and self.often("unsummed", 0.3):
+                yield from self.packets(it, self.spoiled(it), 0)
             yield from self.packets(it, self.sent(it), 0.3)
 
     def is_from_afar(self, it: Datagram) -> bool:
@@ -126,6 +133,8 @@ class Recorder:
     def sent(self, it: Datagram) -> bytes:
         """Its bytes as they are where it was recorded."""
         content = headed(self.plain(it))
+        if it.source.host == self.unsummed:
+            return content[:6] + bytes(2) + content[8:]
         return left(self.plain(it), content) if self.is_left(it, content) else content
 
     def is_left(self, it: Datagram, content: bytes) -> bool:

@@ -1,7 +1,6 @@
 pub mod Refusing
 pub mod Telling
 pub mod Holding
-pub mod Spoilt
 pub mod Trailing
 pub mod Answering
 pub mod Closing

@@ -4,7 +4,7 @@ pub mod Distinct
 pub mod Beside
 pub mod Faults
 pub mod Going
-pub mod Intact
+pub mod Discards
 pub mod Lacking
 pub mod Lines
 pub mod Marking
@@ -15,11 +15,12 @@ pub mod Once
 pub mod Opened
 pub mod Over
 pub mod Recording
-pub mod Seen
 pub mod Worked
 pub mod WorkedLost
 pub mod Trails
-pub mod HandedOut
+pub mod Within
+pub mod Heard
+pub mod Hearing
 pub mod Texts
 pub mod Rising
 pub mod Ordered

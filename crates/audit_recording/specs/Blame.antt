@@ -1,5 +1,4 @@
 pub mod Frames
-pub mod Spoilt
 pub mod Named
 pub mod Facts
 pub mod Kept

@@ -1,6 +1,5 @@
 pub mod Listed
 pub mod Twice
-pub mod Spoilt
 pub mod Clock
 pub mod Unplaced
 pub use Rattle.audit_recording.specs.declared.blame.reason.Reason.{Reason}

@@ -1,5 +1,5 @@
 pub mod Headed
-pub mod Intact
+pub mod Discards
 pub mod Told
 pub mod Firsts
 pub mod Hidden
@@ -9,10 +9,10 @@ pub mod Noted
 pub mod Beside
 pub mod Recording
 pub mod Trails
-pub mod HandedOut
 pub mod Plain
 pub mod Texts
 pub mod Requests
+pub mod Heard
 pub mod Kept
 pub mod Over
 pub mod Opened

@@ -17,6 +17,7 @@ use Rattle.audit_recording.specs.Reasons.Twice.{are_twice}
 use Rattle.audit_recording.specs.declared.blame.blame.Blamed.{Blamed}
 use Rattle.audit_recording.specs.declared.blame.doubted.Doubted.{Doubted}
 use Rattle.audit_recording.specs.declared.blame.trail.Trail.{Trail}
+use Rattle.audit_recording.specs.Losses.Kept.{lesser}
 use Rattle.audit_recording.specs.Rows.Accusing.{role_at}
 use Rattle.audit_recording.specs.Rows.Told.{refused_frame}
 use Rattle.audit_recording.specs.declared.blame.stop.Stop.{Stop}
@@ -31,7 +32,8 @@ use Rattle.audit_rows.specs.declared.told.Told.{Told}
 use Rattle.audit_rows.specs.declared.viewed.Viewed.{Viewed}
 
 -- What makes a refusal of this transfer doubtful beside the division is what was kept of it: whether all that passed at its client was
--- recorded twice or went one way, its first frame, and the first frames that may be copies, are damaged, were discarded or left out.
+-- recorded twice or went one way, its first frame, and the first frames that may be copies, are damaged, have wrong checksums or were left
+-- out.
 pub record AreKeptDoubts (d : Doubted) (t : Trail) (x : Transfer) (named : List ℕ) (carried : List Carried) : Type 0 where
   pub number : d.doubts.number ≡ x.number
   pub is_twice : d.is_twice ≡ are_twice (map sent_of (view_of point.Client x.number named carried))
@@ -39,7 +41,7 @@ pub record AreKeptDoubts (d : Doubted) (t : Trail) (x : Transfer) (named : List 
   pub is_one_way : d.is_one_way ≡ not t.is_answered
   pub copied_from : d.copied_from ≡ t.copied_from
   pub damaged : d.damaged ≡ t.damaged
-  pub discarded : d.discarded ≡ t.discarded
+  pub discarded : d.discarded ≡ lesser t.discarded t.spoilt
   pub left_out : d.left_out ≡ t.left_out
 
 -- It is what there is to say of this transfer by these datagrams of a recording: a verdict at each point where it is judged, on what

@@ -9,7 +9,7 @@ use Rattle.tftp_match.specs.Matching.{IsSaidOfBoth, IsSaidOfFiles, IsTakenAs, Is
 use Rattle.tftp_match.specs.declared.choice.Judged.{Judged}
 use Rattle.tftp_match.specs.declared.faults.MatchFault.{MatchFault}
 use Rattle.tftp_match.specs.declared.judging.Matching.{Matching}
-use Rattle.tftp_match.specs.declared.words.Request.{Request}
+use Rattle.tftp_words.specs.declared.match_request.MatchRequest.{MatchRequest}
 
 pub on_some : {A E : Type 0} (r : Result (Option A) E) (P Q : A → Type 0) → ((a : A) → P a → Q a) → IfOk r (λ f. IfSome f P) → IfOk r (λ f. IfSome f Q)
 on_some (Ok (Some a)) P Q to p = to a p
@@ -21,7 +21,7 @@ on_none (Ok (Some a)) P Q to p = p
 on_none (Ok None) P Q to p = to p
 on_none (Err e) P Q to p = p
 
-module _ (S : Type 0) (r : Request) where
+module _ (S : Type 0) (r : MatchRequest) where
   pub of_server : (held : Option (List ℕ)) (session : Session) (found : Option Judged) → IfSome found (λ j. IsTakenAs r (Text held) (Recording session) j × S)
       → IfSome (option_map (λ j. record { said = j.said; client = None; server = Some j.server }) found) (λ m. IsSaidOfBoth r (Text held) (Recording session) m × S)
   of_server held session None p = tt
@@ -70,7 +70,7 @@ wanted n m is several = ap not (ap (λ k. k == 1) is ∙ several)
 
 -- ---- of files that are named
 
-module _ {E : Type 0} (errors : E → Option (List ℕ)) (r : Request) (a b : Remarks E) (client client_named server server_named after : Option (List ℕ)) where
+module _ {E : Type 0} (errors : E → Option (List ℕ)) (r : MatchRequest) (a b : Remarks E) (client client_named server server_named after : Option (List ℕ)) where
   pub named_said : (m : Matching) → b ≡ a → client ≡ client_named → server ≡ server_named → IsSaidOfFiles r b.program.now client server (errors b.errors.0) after m → IsSaidOfFiles r a.program.now client_named server_named (errors a.errors.0) after m
   named_said m same one other said =
       subst (λ f. IsSaidOfFiles r a.program.now client_named f (errors a.errors.0) after m) other
@@ -81,7 +81,7 @@ module _ {E : Type 0} (errors : E → Option (List ℕ)) (r : Request) (a b : Re
       subst (λ f. IsToldOfFiles r a.program.now client_named f (errors a.errors.0) after) other
       (subst (λ f. IsToldOfFiles r a.program.now f server (errors a.errors.0) after) one (subst (λ (k : Remarks E). IsToldOfFiles r k.program.now client server (errors k.errors.0) after) same told))
 
-pub says_named : {W E : Type 0} (contents : W → Option (List ℕ)) (errors : E → Option (List ℕ)) (opens : List ℕ → Bool) (holds : List ℕ → Option (List ℕ)) (r : Request) (old new : Sink W) (remarks told : Remarks E) (m : Matching) (res : Result ℕ MatchFault)
+pub says_named : {W E : Type 0} (contents : W → Option (List ℕ)) (errors : E → Option (List ℕ)) (opens : List ℕ → Bool) (holds : List ℕ → Option (List ℕ)) (r : MatchRequest) (old new : Sink W) (remarks told : Remarks E) (m : Matching) (res : Result ℕ MatchFault)
     → IsSaidOfFiles r remarks.program.now (holds r.client.now) (holds r.server.now) (errors remarks.errors.0) (errors told.errors.0) m → SaysMatching contents r m old new res → MatchesFiles contents errors opens holds r old new remarks told res
 says_named contents errors opens holds r old new remarks told m (Ok status) said says = inl (m, said, says)
 says_named contents errors opens holds r old new remarks told m (Err fault) said says = inl (m, said, says)

@@ -12,11 +12,11 @@ use Rattle.tftp_match.specs.declared.faults.MatchFault.{MatchFault}
 use Rattle.tftp_match.specs.declared.faults.MatchFault.TheVariants.{Alloc, Memory, Output, Uncounted}
 use Rattle.tftp_match.specs.declared.judging.Matching.{Matching}
 use Rattle.tftp_match.specs.declared.objects.Captured.{Captured}
-use Rattle.tftp_match.specs.declared.words.Request.{Request}
+use Rattle.tftp_words.specs.declared.match_request.MatchRequest.{MatchRequest}
 
 -- ---- what is written of two captures of which this is said
 
-module _ {W : Type 0} (contents : W → Option (List ℕ)) (r : Request) (m : Matching) (old new : Sink W) where
+module _ {W : Type 0} (contents : W → Option (List ℕ)) (r : MatchRequest) (m : Matching) (old new : Sink W) where
   -- It is the text; where copies are wanted, those of what was counted are told.
   pub record IsTextOf (text : List ℕ) : Type 0 where
     pub copies : Option (List Copies)
@@ -34,7 +34,7 @@ module _ {W : Type 0} (contents : W → Option (List ℕ)) (r : Request) (m : Ma
 
 -- ---- of two files, of which `holds` says what they hold, and `opens` which are known to open
 
-module _ {W E : Type 0} (contents : W → Option (List ℕ)) (errors : E → Option (List ℕ)) (opens : List ℕ → Bool) (holds : List ℕ → Option (List ℕ)) (r : Request) (old new : Sink W) (remarks told : Remarks E) where
+module _ {W E : Type 0} (contents : W → Option (List ℕ)) (errors : E → Option (List ℕ)) (opens : List ℕ → Bool) (holds : List ℕ → Option (List ℕ)) (r : MatchRequest) (old new : Sink W) (remarks told : Remarks E) where
   abbrev pub before : Option (List ℕ)
   before = errors remarks.errors.0
 

@@ -18,12 +18,12 @@ use Rattle.tftp_match.specs.declared.faults.MatchFault.{MatchFault}
 use Rattle.tftp_match.specs.declared.faults.MatchFault.TheVariants.{NoClientRecording, NoRecording, NoServerRecording}
 use Rattle.tftp_match.specs.declared.judging.Matching.{Matching}
 use Rattle.tftp_match.specs.declared.texts.LackFault.{LackFault}
-use Rattle.tftp_match.specs.declared.words.Request.{Request}
+use Rattle.tftp_words.specs.declared.match_request.MatchRequest.{MatchRequest}
 
 -- ---- what was asked for
 
 -- Which transfer of the server's recording is named: where the client's capture is a text, either word names it.
-abbrev pub server_number : Request → Capture → Option ℕ
+abbrev pub server_number : MatchRequest → Capture → Option ℕ
 server_number r (Recording client) = r.server_transfer
 server_number r (Text client) = option_or r.server_transfer r.transfer
 
@@ -45,7 +45,7 @@ is_alone asked = length asked == 1
 abbrev pub IsTold : List ℕ → List ℕ → Option (List ℕ) → Option (List ℕ) → Type 0
 IsTold program name before after = (words : List ℕ) × Appends before after (remark_text program name words)
 
-module _ (r : Request) (client server : Capture) where
+module _ (r : MatchRequest) (client server : Capture) where
   -- of the transfers of the two captures these were asked for
   abbrev pub AreAsked : List Asked → List Asked → Type 0
   AreAsked own others = AreAskedIn r.transfer (is_alone others) client own × AreAskedIn (server_number r client) (is_alone own) server others
@@ -66,10 +66,10 @@ module _ (r : Request) (client server : Capture) where
       ⊎ IsLackTold (IsLackIn Client r.client.now client) (IsLackIn Server r.server.now server) (shown_in r.client.now (codes "--transfer") client own) (shown_in r.server.now (server_option client) server others) program before after)
 
 -- of these captures, where a text is in memory
-abbrev pub IsTakenAs : Request → Capture → Capture → Judged → Type 0
+abbrev pub IsTakenAs : MatchRequest → Capture → Capture → Judged → Type 0
 IsTakenAs r client server judged = (one other : Capture) × IsAs client one × IsAs server other × IsTakenOf r one other judged
 
-abbrev pub IsUntakenAs : Request → Capture → Capture → List ℕ → Option (List ℕ) → Option (List ℕ) → Type 0
+abbrev pub IsUntakenAs : MatchRequest → Capture → Capture → List ℕ → Option (List ℕ) → Option (List ℕ) → Type 0
 IsUntakenAs r client server program before after = (one other : Capture) × IsAs client one × IsAs server other × IsUntakenOf r one other program before after
 
 -- why it is not known which transfers were asked for what, as far as the words are known: the text is not read, or the recording has none with
@@ -86,20 +86,20 @@ number_in (Recording session) number = Some number
 number_in (Text held) number = None
 
 -- What is said of them: of two texts, of which no transfer is named; or of the pair that is taken.
-abbrev pub IsSaidOfBoth : Request → Capture → Capture → Matching → Type 0
+abbrev pub IsSaidOfBoth : MatchRequest → Capture → Capture → Matching → Type 0
 IsSaidOfBoth r (Text client) (Text server) m = ((r.transfer ≡ None) × (r.server_transfer ≡ None)) × IsSaidOf r.rollover client server m.said × (m.client ≡ None) × (m.server ≡ None)
 IsSaidOfBoth r client server m =
     (judged : Judged) × IsTakenAs r client server judged × (m.said ≡ judged.said) × (m.client ≡ number_in client judged.client) × (m.server ≡ number_in server judged.server)
 
 -- What is told where nothing is said of them.
-abbrev pub IsToldOfBoth : Request → Capture → Capture → List ℕ → Option (List ℕ) → Option (List ℕ) → Type 0
+abbrev pub IsToldOfBoth : MatchRequest → Capture → Capture → List ℕ → Option (List ℕ) → Option (List ℕ) → Type 0
 IsToldOfBoth r client server program before after =
     IsUntakenAs r client server program before after
     ⊎ (IsUnknown program r.client.now r.transfer client before after
     ⊎ IsUnknown program r.server.now (server_number r client) server before after)
 
 -- Why neither is: a transfer is named of what is no recording.
-abbrev pub IsMisnamed : Request → Capture → Capture → MatchFault → Type 0
+abbrev pub IsMisnamed : MatchRequest → Capture → Capture → MatchFault → Type 0
 IsMisnamed r (Text client) (Text server) NoRecording = is_some r.transfer || is_some r.server_transfer ≡ true
 IsMisnamed r (Recording client) (Text server) NoServerRecording = is_some r.server_transfer ≡ true
 IsMisnamed r (Text client) (Recording server) NoClientRecording = (is_some r.transfer ≡ true) × (is_some r.server_transfer ≡ true)
@@ -107,7 +107,7 @@ IsMisnamed r client server fault = ⊥
 
 -- ---- of two files
 
-module _ (r : Request) (program : List ℕ) (client_file server_file before after : Option (List ℕ)) where
+module _ (r : MatchRequest) (program : List ℕ) (client_file server_file before after : Option (List ℕ)) where
   -- Both were read, and what there is to tell of each was told, up to `until`.
   pub record AreRead (client server : Capture) (until : Option (List ℕ)) : Type 0 where
     pub client_is : IsCaptureOf r.services.items client_file client
@@ -128,6 +128,6 @@ module _ (r : Request) (program : List ℕ) (client_file server_file before afte
     unsaid : (client server : Capture) (until : Option (List ℕ)) → AreRead client server until → IsToldOfBoth r client server program until after → IsToldOfFiles
 
 -- Why neither is: memory ran out, what there is to tell is not told, or a transfer is named of what is no recording.
-abbrev pub IsUnsaidOfFiles : Request → Option (List ℕ) → Option (List ℕ) → Bool → MatchFault → Type 0
+abbrev pub IsUnsaidOfFiles : MatchRequest → Option (List ℕ) → Option (List ℕ) → Bool → MatchFault → Type 0
 IsUnsaidOfFiles r client_file server_file unheard fault =
     IsUntold unheard fault ⊎ ((client server : Capture) × IsCaptureOf r.services.items client_file client × IsCaptureOf r.services.items server_file server × IsMisnamed r client server fault)

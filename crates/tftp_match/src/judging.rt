@@ -24,13 +24,13 @@ use crate::recorded::{Recorded, asked_in};
 use crate::sides::judge_sides;
 use crate::source::{Source, Whole};
 use crate::texts::{LackFault, said_of};
-use crate::words::Request;
 use audit_recording::session::{Asked, Session};
 use judge_pair::match_texts::PairSaid;
 use std::alloc::Global;
 use std::io::{Read, Write};
 use tftp_packet::End;
 use tftp_rows::{Remarks, TellFault};
+use tftp_words::MatchRequest;
 
 const TRANSFER: &str = "--transfer";
 
@@ -49,7 +49,7 @@ pub struct Matching {
 /// What there is to say of the captures that two readers give; none where one can't be judged, which is told.
 pub fn judge_captures<R: Read + Drop, S: Read + Drop, E: Write + Drop>(
     alloc: Global,
-    request: &Request<'_>,
+    request: &MatchRequest<'_>,
     client: R,
     server: S,
     remarks: &mut Remarks<'_, E>,
@@ -71,7 +71,7 @@ pub fn judge_captures<R: Read + Drop, S: Read + Drop, E: Write + Drop>(
 /// The capture of a file, and a recording is read and told of; none where it is not read, which is told.
 fn begun<R: Read + Drop, E: Write + Drop>(
     alloc: Global,
-    request: &Request<'_>,
+    request: &MatchRequest<'_>,
     file: &str,
     reader: R,
     remarks: &mut Remarks<'_, E>,
@@ -147,7 +147,7 @@ pub fn told<T, E: Write + Drop>(
 /// What there is to say of two captures that were read as far as it is told of them.
 fn judge_read<R: Read + Drop, S: Read + Drop, E: Write + Drop>(
     alloc: Global,
-    request: &Request<'_>,
+    request: &MatchRequest<'_>,
     client: Source<R>,
     server: Source<S>,
     remarks: &mut Remarks<'_, E>,
@@ -166,7 +166,7 @@ fn judge_read<R: Read + Drop, S: Read + Drop, E: Write + Drop>(
 /// The same beside a text of the client.
 fn beside_text<R: Read + Drop, S: Read + Drop, E: Write + Drop>(
     alloc: Global,
-    request: &Request<'_>,
+    request: &MatchRequest<'_>,
     client: Whole<R>,
     server: Source<S>,
     remarks: &mut Remarks<'_, E>,
@@ -188,7 +188,7 @@ fn beside_text<R: Read + Drop, S: Read + Drop, E: Write + Drop>(
 /// The same beside a recording of the client.
 fn beside_recording<S: Read + Drop, E: Write + Drop>(
     alloc: Global,
-    request: &Request<'_>,
+    request: &MatchRequest<'_>,
     client: &Session,
     server: Source<S>,
     remarks: &mut Remarks<'_, E>,
@@ -229,7 +229,7 @@ fn numbered(found: Option<Judged>, has_client: bool, has_server: bool) -> Option
 /// Two texts, of which no transfer can be named.
 fn texts<R: Read + Drop, S: Read + Drop>(
     alloc: Global,
-    request: &Request<'_>,
+    request: &MatchRequest<'_>,
     client: Whole<R>,
     server: Whole<S>,
 ) -> Result<Matching, MatchFault>
@@ -249,7 +249,7 @@ fn texts<R: Read + Drop, S: Read + Drop>(
 /// A recording of the client and a text of the server.
 fn recorded_client<S: Read + Drop, E: Write + Drop>(
     alloc: Global,
-    request: &Request<'_>,
+    request: &MatchRequest<'_>,
     client: &Session,
     server: Whole<S>,
     remarks: &mut Remarks<'_, E>,
@@ -274,7 +274,7 @@ fn recorded_client<S: Read + Drop, E: Write + Drop>(
 /// The same where the requests of the recording are known, and the text is in memory.
 fn beside_held_server<E: Write + Drop>(
     alloc: Global,
-    request: &Request<'_>,
+    request: &MatchRequest<'_>,
     client: &Session,
     asked: &[Asked<'_>],
     server: &Held,
@@ -311,7 +311,7 @@ fn beside_held_server<E: Write + Drop>(
 /// A text of the client and a recording of the server, whose transfer either word names.
 fn recorded_server<R: Read + Drop, E: Write + Drop>(
     alloc: Global,
-    request: &Request<'_>,
+    request: &MatchRequest<'_>,
     client: Whole<R>,
     server: &Session,
     remarks: &mut Remarks<'_, E>,
@@ -337,7 +337,7 @@ fn recorded_server<R: Read + Drop, E: Write + Drop>(
 /// The same where the text is in memory, and the requests of the recording are known.
 fn beside_held_client<E: Write + Drop>(
     alloc: Global,
-    request: &Request<'_>,
+    request: &MatchRequest<'_>,
     client: &Held,
     server: &Session,
     asked: &[Asked<'_>],
@@ -374,7 +374,7 @@ fn beside_held_client<E: Write + Drop>(
 /// Two recordings.
 fn recordings<E: Write + Drop>(
     alloc: Global,
-    request: &Request<'_>,
+    request: &MatchRequest<'_>,
     client: &Session,
     server: &Session,
     remarks: &mut Remarks<'_, E>,
@@ -398,7 +398,7 @@ fn recordings<E: Write + Drop>(
 /// The same where their requests are known.
 fn both_recorded<E: Write + Drop>(
     alloc: Global,
-    request: &Request<'_>,
+    request: &MatchRequest<'_>,
     client: &Session,
     clients: &[Asked<'_>],
     server: &Session,

@@ -28,7 +28,7 @@ ghost use Rattle.tftp_match.specs.Captures.Capture.{Recording, Text};
 ghost use Rattle.tftp_match.specs.Matching.{server_number};
 ghost use Rattle.tftp_match.specs.Objects.{fault_word, json_line, together_json, words_of};
 ghost use Rattle.tftp_match.specs.Status.{status_of};
-ghost use Rattle.tftp_match.specs.declared.words.Request.{Request};
+ghost use Rattle.tftp_words.specs.declared.match_request.MatchRequest.{MatchRequest};
 ghost use Rattle.tftp_match.specs.Worked.{AreNamed, Asks, counted, numbers, said, tried};
 
 use tftp_judge::Rule;
@@ -106,7 +106,7 @@ pub fn worked_pairs()
 
 /// Beside a text one word or the other names the recorded transfer; beside a recording the word of the server does.
 pub fn worked_names()
-    ensures beside_text { (r : Request) → r.transfer ≡ Some 2 → r.server_transfer ≡ None → server_number r (Text None) ≡ Some 2 }
-    ensures at_the_server { (r : Request) → r.server_transfer ≡ Some 3 → server_number r (Text None) ≡ Some 3 }
-    ensures beside_recording { (r : Request) (session : Session) → r.transfer ≡ Some 2 → r.server_transfer ≡ None → server_number r (Recording session) ≡ None }
+    ensures beside_text { (r : MatchRequest) → r.transfer ≡ Some 2 → r.server_transfer ≡ None → server_number r (Text None) ≡ Some 2 }
+    ensures at_the_server { (r : MatchRequest) → r.server_transfer ≡ Some 3 → server_number r (Text None) ≡ Some 3 }
+    ensures beside_recording { (r : MatchRequest) (session : Session) → r.transfer ≡ Some 2 → r.server_transfer ≡ None → server_number r (Recording session) ≡ None }
 {}

@@ -8,7 +8,6 @@ mod copies;
 mod facts;
 mod faults;
 mod held;
-mod help;
 mod judging;
 mod laws;
 mod lines;
@@ -22,17 +21,15 @@ mod source;
 mod texts;
 mod told;
 mod verdict;
-mod words;
 
 use crate::matching::match_files;
-use crate::words::{Request, request_of};
 use anyhow::Result;
 use audit_recording::session::ended;
 use net_streams::streams::LineWriter;
 use std::io;
 use std::process::ExitCode;
 use tftp_rows::{Machine, Remarks};
-use tftp_words::{fault_of, own_words, tell_fault};
+use tftp_words::{MatchRequest, match_request_of, own_words, tell_fault};
 
 /// The name with which all begins that is told on standard error.
 const PROGRAM: &str = "tftp-match";
@@ -47,14 +44,14 @@ fn main(rt: HostRuntime) -> ExitCode {
 
 /// Does what the words ask for, and answers the status.
 fn answer(rt: HostRuntime, words: &[String]) -> Result<u8> {
-    match request_of(rt.alloc(), words) {
+    match match_request_of(rt.alloc(), words) {
         Ok(request) => matched(rt, &request),
-        Err(error) => Ok(tell_fault(rt, PROGRAM, &fault_of(error))?),
+        Err(fault) => Ok(tell_fault(rt, PROGRAM, &fault)?),
     }
 }
 
 /// Matches the captures that are named; `-` is standard input.
-fn matched(rt: HostRuntime, request: &Request<'_>) -> Result<u8> {
+fn matched(rt: HostRuntime, request: &MatchRequest<'_>) -> Result<u8> {
     let machine = Machine::new(rt);
     let mut writer = LineWriter::new(rt.alloc(), io::writer(&rt));
     let mut remarks = Remarks::new(PROGRAM, rt.stderr());

@@ -11,18 +11,18 @@ use crate::faults::MatchFault;
 use crate::judging::{Matching, judge_captures};
 use crate::objects::Captured;
 use crate::saying::{SayFault, say};
-use crate::words::Request;
 use net_streams::streams::LineWriter;
 use std::alloc::Global;
 use std::io::Write;
 use tftp_rows::{Outside, Remarks, TellFault};
+use tftp_words::MatchRequest;
 
 /// Writes what there is to say of the captures in the files that are named, and answers the status: 0 where one run of the two ends has
 /// both, 1 where none has, and 2 after a fault. Where nothing is said of them it tells why on standard error.
 pub fn match_files<O: Outside, W: Write, E: Write + Drop>(
     alloc: Global,
     outside: &O,
-    request: &Request<'_>,
+    request: &MatchRequest<'_>,
     writer: &mut LineWriter<W>,
     remarks: &mut Remarks<'_, E>,
 ) -> Result<u8, MatchFault>
@@ -63,7 +63,7 @@ fn opened<O: Outside, E: Write + Drop>(
 /// Writes what there is to say of two captures, and answers the status.
 fn say_matching<W: Write>(
     alloc: Global,
-    request: &Request<'_>,
+    request: &MatchRequest<'_>,
     matching: &Matching,
     writer: &mut LineWriter<W>,
 ) -> Result<u8, MatchFault>

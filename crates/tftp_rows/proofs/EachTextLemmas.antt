@@ -1,5 +1,5 @@
 -- The texts of transfers, one behind the other: with one more, and where a fault comes.
-use Rattle.std.proofs.Common.{arith, ◌≡◌, ◌+◌, ◌++◌, ◌∷◌, ℕ, Bool, true, false, true≢false, List, [], append_assoc, append-nil, length, Option, Some, None, Result, Ok, Err, IsErrAnd, inl, inr, refl, sym, ap, subst, ◌∙◌, if◌then◌else◌}
+use Rattle.std.proofs.Common.{arith, ◌≡◌, ◌+◌, ◌++◌, ◌∷◌, ℕ, Bool, true, false, List, [], append_assoc, append-nil, length, Option, Some, None, Result, Ok, Err, IsErrAnd, inr, refl, sym, ap, subst, ◌∙◌, if◌then◌else◌}
 use Rattle.std.specs.Io.KnownBytes.{Appends}
 use Rattle.std.proofs.KnownBytes.{Appends-nil, Appends-trans}
 use Rattle.std.proofs.lemmas.Grind.{flat_map-append}
@@ -9,12 +9,11 @@ use Rattle.audit_recording.proofs.SessionLemmas.Ordered.{count_is, ordinal_at}
 use Rattle.audit_recording.specs.Blame.Frames.{Carried, datagrams_of, whole_of}
 use Rattle.audit_recording.specs.Session.Noted.{Noticed}
 use Rattle.audit_recording.specs.Session.Texts.{IsTextFault, opened_count, opened_numbers, ordinal}
-use Rattle.audit_recording.specs.declared.session.fault.TextFault.{TextFault}
 use Rattle.audit_recording.specs.declared.session.fault.TextFault.TheVariants.{NotWhole}
 use Rattle.audit_recording.specs.declared.session.notes.Notes.{Notes}
 use Rattle.tftp_rows.specs.Faults.{IsRemarkFault}
-use Rattle.tftp_rows.specs.Remarks.{SaysPart, lacking_line, remark_text, remarks_text, rest_lines}
-use Rattle.tftp_rows.specs.Texts.{AreAllWritten, AreFirstWritten, AreSomeWritten, AreStoppedAfter, AreTexts, AreTextsStopped, AreTextsWritten, IsOneStopped, IsRecordingRead, IsSaid, IsText, Texts, WritesEach, WritesFileTexts, WritesTexts, all_texts, lacking_lines, lines_of, noticed_by, status_of_texts}
+use Rattle.tftp_rows.specs.Remarks.{SaysPart, lacking_line, remark_text, remarks_text}
+use Rattle.tftp_rows.specs.Texts.{AreAllWritten, AreFirstWritten, AreSomeWritten, AreTexts, AreTextsStopped, IsOneStopped, IsRecordingRead, IsSaid, IsText, Texts, WritesEach, WritesFileTexts, WritesTexts, all_texts, lacking_lines, lines_of, noticed_by, status_of_texts}
 use Rattle.tftp_rows.specs.Faults.Why.{Unopened, Stopped}
 use Rattle.tftp_rows.specs.declared.reading.TellFault.{TellFault}
 use Rattle.tftp_rows.specs.declared.remarks.Remarks.{Remarks}

@@ -113,7 +113,7 @@ module _ (named : List ℕ) (carried : List Carried) (x : Transfer) (opens : ope
   opened_on later =
       sym (same_opened x.number (whole_of named (later ++ carried))) ∙ ((final later).transfer ∙ (same_opened x.number (whole_of named carried) ∙ opens))
 
-  new_apart : (c : Carried) (later : List Carried) → is_about x.number (placed_after named (whole_of named (later ++ carried)) c.datagram) ≡ false
+  pub new_apart : (c : Carried) (later : List Carried) → is_about x.number (placed_after named (whole_of named (later ++ carried)) c.datagram) ≡ false
   new_apart c later = added_none (is_about x.number) (placed_after named (whole_of named (later ++ carried)) c.datagram) (whole_of named (later ++ carried))
       (filter (is_about x.number) (whole_of named carried)) ((final (c ∷ later)).about) ((final later).about)
 
@@ -187,7 +187,7 @@ module _ (named : List ℕ) (carried : List Carried) (x : Transfer) (opens : ope
 
 -- ---- what was told
 
-silent_of : (j : Judged) (judging : Judging) (x : Transfer) (named : List ℕ) (carried : List Carried) (s : Noticed) → IsJudgedOf j judging x named carried → IsOver j.trail named carried s
+pub silent_of : (j : Judged) (judging : Judging) (x : Transfer) (named : List ℕ) (carried : List Carried) (s : Noticed) → IsJudgedOf j judging x named carried → IsOver j.trail named carried s
     → IsSilent x.client (whole_of named carried)
 silent_of j judging x named carried s of over = subst (λ (y : Transfer). IsSilent y.client (whole_of named carried)) of.trail.transfer over.silent
 

@@ -1,8 +1,6 @@
 -- What the whole recording lacks of a transfer that was over was lacking when it was told.
-use Rattle.std.proofs.Common.{◌≡◌, ◌≤◌, ◌∷◌, ◌++◌, ℕ, Bool, true, false, cond, List, [], length, filter, Option, Some, None, IfSome, option_map, inl, inr, refl, sym, subst, arith}
-use Rattle.net_udp.specs.{Fate}
-use Rattle.net_udp.specs.Recording.{EventState, Step}
-use Rattle.net_udp.specs.declared.recording.fate.Fate.TheVariants.{Datagram, Discarded, Left, Waits}
+use Rattle.std.proofs.Common.{◌≡◌, ◌≤◌, ◌∷◌, ◌++◌, ℕ, Bool, true, false, cond, List, [], length, filter, Option, Some, None, IfSome, option_map, inl, inr, refl, sym, subst}
+use Rattle.net_udp.specs.Recording.{Step}
 use Rattle.law_model.specs.Rules.{first_of, or_this}
 use Rattle.audit_flows.specs.{Transfer}
 use Rattle.audit_flows.specs.Transfers.{opened_it}
@@ -13,39 +11,18 @@ use Rattle.audit_recording.specs.Judges.{opened}
 use Rattle.audit_recording.specs.Losses.Noted.{Event, IsFirst, IsMissingOf, is_soon}
 use Rattle.audit_recording.specs.Session.Noted.{Noticed, giving_up, stretch_of}
 use Rattle.audit_recording.specs.Session.Over.{IsOver}
-use Rattle.audit_recording.specs.Session.Recording.{AddsOne, IsNoticedOf, letting_go, reached_by}
+use Rattle.audit_recording.specs.Session.Recording.{IsNoticedOf, reached_by}
 use Rattle.audit_recording.specs.declared.blame.trail.Trail.{Trail}
 use Rattle.audit_recording.specs.declared.judges.judging.Judging.{Judging}
 use Rattle.audit_recording.specs.declared.rows.row.Point.TheVariants.{Client}
 use Rattle.audit_recording.proofs.SessionLemmas.Over.{missing_before}
+use Rattle.audit_recording.proofs.SessionLemmas.Within.{AreWithin, all_within}
 use Rattle.tftp_rows.specs.Whole.{AreLacking, AreTold, IsPartOf, IsToldNext, Part, Telling}
 use Rattle.tftp_rows.proofs.DueLemmas.{asked_first}
 use Rattle.tftp_rows.proofs.LaterLemmas.{grew_giving_up, grown}
 use Rattle.tftp_rows.proofs.OrderLemmas.{part_of}
 
 -- ---- the last frame of a transfer has been read
-
-abbrev AreWithin : ℕ → List Carried → Type 0
-AreWithin n [] = Unit {0}
-AreWithin n (c ∷ older) = (c.frame ≤ n) × AreWithin n older
-
-within_more : (n m : ℕ) → n ≤ m → (carried : List Carried) → AreWithin n carried → AreWithin m carried
-within_more n m up [] all = tt
-within_more n m up (c ∷ older) all = ((let here = all.0 in omega arith), within_more n m up older all.1)
-
-one_within : (named : List ℕ) (event : EventState) (fate : Fate) (older : List Carried) (s : Noticed) (all : List Carried) (t : Noticed) (n : ℕ) → event.frame.number ≤ n → AddsOne named event fate older s all t
-    → AreWithin n older → AreWithin n all
-one_within named event (Datagram given) older s all t n up (c, is, more, same) were = subst (AreWithin n) (sym more) ((let at = is.frame in omega arith), were)
-one_within named event (Left why) older s all t n up (more, leaves) were = subst (AreWithin n) (sym more) were
-one_within named event Waits older s all t n up (more, wait) were = subst (AreWithin n) (sym more) were
-one_within named event (Discarded given) older s all t n up (more, same) were = subst (AreWithin n) (sym more) were
-
-all_within : (named : List ℕ) (history : List Step) (carried : List Carried) (s : Noticed) → IsNoticedOf named history carried s → AreWithin (length history) carried
-all_within named [] carried s is = subst (AreWithin 0) (sym is.0) tt
-all_within named (step ∷ before) carried s is =
-    let number = is.5.number in
-    one_within named is.2 is.3 is.0 (letting_go is.2.brought is.1) carried s (length (step ∷ before)) (omega arith) is.7
-    (within_more (length before) (length (step ∷ before)) (omega arith) is.0 (all_within named before is.0 is.1 is.4))
 
 last_within : (test : Framed → Bool) (named : List ℕ) (carried : List Carried) (otherwise n : ℕ) → otherwise ≤ n → AreWithin n carried → last_frame otherwise (filter test (framed named carried)) ≤ n
 last_within test named [] otherwise n low all = low
@@ -68,7 +45,7 @@ first_within test named (c ∷ older) frame n is all =
     let f : Framed = framed_after named older c in
     or_within (first_of test (framed named older)) (test f) f frame n is (λ before. first_within test named older frame n before all.1) all.0
 
-trail_within : (named : List ℕ) (history : List Step) (carried : List Carried) (s : Noticed) (x : Transfer) (t : Trail) (judging : Judging) → IsNoticedOf named history carried s
+pub trail_within : (named : List ℕ) (history : List Step) (carried : List Carried) (s : Noticed) (x : Transfer) (t : Trail) (judging : Judging) → IsNoticedOf named history carried s
     → opened x.number (whole_of named carried) ≡ Some x → IsTrailOf t judging x named carried → t.last ≤ length history
 trail_within named history carried s x t judging came opens own =
     let all = all_within named history carried s came in

@@ -17,7 +17,7 @@ use Rattle.audit_recording.specs.Audit.{IsOfEvent}
 use Rattle.audit_recording.specs.Blame.Frames.{Carried, framed_after}
 use Rattle.audit_recording.specs.Losses.Noted.{Event}
 use Rattle.audit_recording.specs.Losses.Noted.Event.{Asks, Finds, GivesUp, Loses, Waits as Awaits}
-use Rattle.audit_recording.specs.Session.Intact.{Gone}
+use Rattle.audit_recording.specs.Session.Discards.{Gone}
 use Rattle.audit_recording.specs.Session.Noted.{AreHostsOf, IsHeaderOf, Noticed, finding, frames_in, giving_up, going, is_none, losing, may_be_datagram, moment_in, noting, one_by_one, others, sharers_of, unread_in, with_time}
 use Rattle.audit_recording.specs.Session.Over.{AreLater, IsLater}
 use Rattle.audit_recording.specs.Session.Recording.{AddsOne, IsNoticedOf, Leaves, gone_by, letting_go, placing, reached_by}
@@ -200,7 +200,7 @@ reached_more : (time : ℕ) (times : List ℕ) → reached_by times ≤ reached_
 reached_more time [] = omega arith
 reached_more time (before ∷ older) = omega arith
 
-reached_with : (time : Option ℕ) (times : List ℕ) → reached_by times ≤ reached_by (with_time time times)
+pub reached_with : (time : Option ℕ) (times : List ℕ) → reached_by times ≤ reached_by (with_time time times)
 reached_with None times = omega arith
 reached_with (Some time) times = reached_more time times
 
@@ -254,7 +254,7 @@ module _ (newest moment : ℕ) (was : List Event) (event : EventState) (after : 
   let_later s up = (grew_giving_up newest moment (frames_in event.brought.ousted) was (giving_up event.brought.old s) (grew_giving_up newest moment event.brought.old was s up.0), up.1)
 
 -- one frame adds one datagram, or none
-one_carried : (named : List ℕ) (event : EventState) (fate : Fate) (older : List Carried) (s : Noticed) (all : List Carried) (t : Noticed) → AddsOne named event fate older s all t → (new : List Carried) × (all ≡ new ++ older)
+pub one_carried : (named : List ℕ) (event : EventState) (fate : Fate) (older : List Carried) (s : Noticed) (all : List Carried) (t : Noticed) → AddsOne named event fate older s all t → (new : List Carried) × (all ≡ new ++ older)
 one_carried named event (Datagram given) older s all t (c, by, more, same) = (c ∷ [], more)
 one_carried named event (Left why) older s all t (more, leaves) = ([], more)
 one_carried named event Waits older s all t (more, wait) = ([], more)
@@ -269,7 +269,7 @@ pub record IsBehind (named : List ℕ) (history : List Step) (all : List Carried
   pub datagrams : all ≡ later ++ carried
   pub up : GoesUp (length history) (reached_by noticed.times) noticed.events t
 
-behind : (named : List ℕ) (next history : List Step) (all : List Carried) (t : Noticed) → IsNoticedOf named (next ++ history) all t → IsBehind named history all t
+pub behind : (named : List ℕ) (next history : List Step) (all : List Carried) (t : Noticed) → IsNoticedOf named (next ++ history) all t → IsBehind named history all t
 behind named [] history all t is = record {
   carried = all;
   noticed = t;
@@ -294,7 +294,7 @@ behind named (step ∷ next) history all t is =
           (let_later (length history) (reached_by was.noticed.times) was.noticed.events is.2 after is.1 was.up);
     }
 
-rest_same : {X : Type 0} (xs ys us vs : List X) → xs ++ us ≡ ys ++ vs → length us ≡ length vs → us ≡ vs
+pub rest_same : {X : Type 0} (xs ys us vs : List X) → xs ++ us ≡ ys ++ vs → length us ≡ length vs → us ≡ vs
 rest_same [] [] us vs same long = same
 rest_same [] (y ∷ ys) us vs same long = let more = ap length same in let sum = length-append ys vs in absurd (omega (arith, more, sum, long))
 rest_same (x ∷ xs) [] us vs same long = let more = ap length same in let sum = length-append xs us in absurd (omega (arith, more, sum, long))

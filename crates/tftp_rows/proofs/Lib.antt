@@ -8,6 +8,7 @@ pub mod DueLemmas
 pub mod FinalLemmas
 pub mod LaterLemmas
 pub mod LackingLemmas
+pub mod BesideLemmas
 pub mod WholeLemmas
 pub mod AccusingLemmas
 pub mod ReadingLemmas

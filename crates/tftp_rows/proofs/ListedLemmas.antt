@@ -44,7 +44,7 @@ listed_by_end named end all [] listed = tt
 listed_by_end named end all (e ∷ older) listed = (
   listed.0,
   listed.1,
-  record { next = listed.2.next; due = elim listed.2.due [ inl over ↦ inl over | inr none ↦ absurd (cc) ]; kept = listed.2.kept; row = listed.2.row },
+  record { next = listed.2.next; due = elim listed.2.due [ inl over ↦ inl over | inr none ↦ absurd (cc) ]; kept = listed.2.kept; undelivered = listed.2.undelivered; row = listed.2.row },
   listed_by_end named end listed.0 older listed.3,
 )
 
@@ -90,7 +90,7 @@ module _ {W : Type 0} (contents : W → Option (List ℕ)) where
   entry_of {t} {u} {row} step = record { transfer = step.transfer; trail = step.trail; row = row }
 
   -- the entry of a turn that has failed
-  abbrev pub entry_in : {t u : Lister W} {named out : List ℕ} {carried : List Carried} {s : Noticed} → ListsNextPart contents t u named out carried s → Entry
+  abbrev pub entry_in : {t u : Lister W} {named out : List ℕ} {history : List Step} {carried : List Carried} {s : Noticed} → ListsNextPart contents t u named out history carried s → Entry
   entry_in step = record { transfer = step.transfer; trail = step.trail; row = step.row }
 
   listed_next : (named : List ℕ) (history : List Step) (carried : List Carried) (s : Noticed) (end : Option Part) (t u : Lister W) (row : ListRow) (after : Session) (es : List Entry) → t.told ≡ counted_in es
@@ -100,16 +100,18 @@ module _ {W : Type 0} (contents : W → Option (List ℕ)) where
     next = step.next;
     due = due;
     kept = step.kept;
+    undelivered = step.undelivered;
     row = subst (λ n. IsListRowOf row n step.trail (moment_of s) step.transfer named carried) (one_more t.told u.told (length es) step.number number) step.of;
   }
 
   part_next : (named : List ℕ) (history : List Step) (carried : List Carried) (s : Noticed) (end : Option Part) (t u : Lister W) (es : List Entry) → t.told ≡ counted_in es
-      → (step : ListsNextPart contents t u named (numbers_in es) carried s) → IsDue end named (so_far history carried s) step.trail
+      → (step : ListsNextPart contents t u named (numbers_in es) history carried s) → IsDue end named (so_far history carried s) step.trail
       → IsListedNext named end (so_far history carried s) (entry_in step) es
   part_next named history carried s end t u es number step due = record {
     next = step.next;
     due = due;
     kept = step.kept;
+    undelivered = step.undelivered;
     row = subst (λ n. IsListRowOf step.row n step.trail (moment_of s) step.transfer named carried) (one_more t.told _ (length es) refl number) step.of;
   }
 
@@ -169,8 +171,8 @@ module _ {W : Type 0} (contents : W → Option (List ℕ)) where
 
   -- some were listed, and then one more in part, or nothing was printed
   then_part : (begun mid now : Lister W) (named : List ℕ) (end : Option Part) (all p : Part) (s : Noticed) (es : List Entry) (P : Type 0) → HasListed contents begun mid named end all es
-      → (P → (step : ListsNextPart contents mid now named (numbers_in es) p.carried s) → AreListed named end all (entry_in step ∷ es))
-      → (now.printer ≡ mid.printer) ⊎ (P × ListsNextPart contents mid now named (numbers_in es) p.carried s) → IsPart begun now named end all
+      → (P → (step : ListsNextPart contents mid now named (numbers_in es) p.history p.carried s) → AreListed named end all (entry_in step ∷ es))
+      → (now.printer ≡ mid.printer) ⊎ (P × ListsNextPart contents mid now named (numbers_in es) p.history p.carried s) → IsPart begun now named end all
   then_part begun mid now named end all p s es P h more (inl same) =
       (es, h.listed, subst (λ (q : RowPrinter W). PrintsPart contents list_lines begun.printer q (rows_in es)) (sym same) (prints_all_so contents list_lines begun.printer mid.printer (rows_in es) h.prints))
   then_part begun mid now named end all p s es P h more (inr next) =
@@ -314,7 +316,7 @@ module _ {W : Type 0} (contents : W → Option (List ℕ)) where
             (inl (is.session_is.noticed, over_then turns.between named (numbers_in more.0) is.history is.carried is.noticed step.transfer step.trail Nowhere handed oldest step.next step.kept)),
         more.1.listed,
       ))
-      (subst (λ out. (new.printer ≡ turns.mid.printer) ⊎ (IsOldestOver turns.between named is.carried is.noticed × ListsNextPart contents turns.mid new named out is.carried is.noticed)) more.2 turns.part))
+      (subst (λ out. (new.printer ≡ turns.mid.printer) ⊎ (IsOldestOver turns.between named is.carried is.noticed × ListsNextPart contents turns.mid new named out is.history is.carried is.noticed)) more.2 turns.part))
 
   -- ---- the recording is closed
 
@@ -392,7 +394,7 @@ module _ {W : Type 0} (contents : W → Option (List ℕ)) where
         part_next named is.history is.carried last (Some end) turns.mid now more.0 more.1.number step (inr refl),
         listed_longer named (Some end) all end more.0 (record { next_frames = []; next_carried = []; frames = refl; datagrams = refl }) more.1.listed,
       ))
-      (subst (λ out. (now.printer ≡ turns.mid.printer) ⊎ (Unit {0} × ListsNextPart contents turns.mid now named out is.carried last)) more.2 turns.part) in
+      (subst (λ out. (now.printer ≡ turns.mid.printer) ⊎ (Unit {0} × ListsNextPart contents turns.mid now named out is.history is.carried last)) more.2 turns.part) in
       record {
         history = is.history;
         carried = is.carried;

@@ -1,5 +1,5 @@
 -- Transfers that are listed one after another.
-use Rattle.std.proofs.Common.{◌≡◌, ◌∷◌, ◌++◌, [], ℕ, false, List, OnErr, Option, Some, None, Result, Ok, Err, IfSome, ap, inl, inr, max, ◌∙◌, refl, sym, subst}
+use Rattle.std.proofs.Common.{◌≡◌, ◌∷◌, ◌++◌, [], ℕ, false, List, Option, Some, None, IfSome, ap, inl, inr, max, ◌∙◌, refl, sym, subst}
 use Rattle.std.proofs.lemmas.Bool.{false≢true}
 use Rattle.net_udp.specs.Recording.{Step}
 use Rattle.tftp_packet.specs.{End}
@@ -54,8 +54,7 @@ kept_nowhere t judging x named carried is = record {
   twice = is.twice;
   copied_from = is.copied_from;
   damaged = is.damaged;
-  from_client = is.from_client;
-  to_client = is.to_client;
+  spoilt = is.spoilt;
   closing = is.closing;
   blame = record { client = λ no. absurd (false≢true no); server = λ no. absurd (false≢true no) };
 }
@@ -106,7 +105,7 @@ module _ {W : Type 0} (contents : W → Option (List ℕ)) (Holds : Session → 
 
   -- some were listed, and the next one in part
   pub part_listed : (t u v : Lister W) (d : Session) (out : List ℕ) (p : ListsTurns contents Holds t u d named out history carried s) → Holds d
-      → ListsPart contents u v named p.left carried s → ListsTurnsPart contents Holds t v named out history carried s
+      → ListsPart contents u v named p.left history carried s → ListsTurnsPart contents Holds t v named out history carried s
   part_listed t u v d out p holds (inl same) = record { mid = u; between = d; turns = p; part = inl same }
   part_listed t u v d out p holds (inr next) = record { mid = u; between = d; turns = p; part = inr (holds, next) }
 

@@ -3,7 +3,7 @@ use Rattle.std.proofs.Common.{◌≡◌, ℕ, Bool, false, List, Option, Result,
 use Rattle.std.specs.Io.KnownBytes.{Appends}
 use Rattle.audit_recording.specs.Session.Noted.{AreNotesOf, Noticed, frames_in, giving_up}
 use Rattle.audit_recording.specs.declared.session.notes.Notes.{Notes}
-use Rattle.tftp_rows.specs.Faults.{IsRemarkFault, IsTellFault, IsToldFor}
+use Rattle.tftp_rows.specs.Faults.{IsRemarkFault, IsTellFault}
 use Rattle.tftp_rows.specs.Faults.Why.{Unopened, Stopped}
 use Rattle.tftp_rows.specs.Files.{is_read_whole}
 use Rattle.tftp_rows.specs.ListedWhole.{IsRecordingListed, IsRecordingListedInPart}

@@ -1,25 +1,21 @@
 -- What is written of a file's transfers, and what a fault leaves of it.
-use Rattle.std.proofs.Common.{arith, ◌≡◌, ◌==◌, ◌+◌, ◌++◌, ◌∷◌, zero, suc, ℕ, Bool, true, false, true≢false, List, [], length, Option, Some, None, Result, Ok, Err, IsErr, IsErrAnd, IfErr, inl, inr, refl, sym, ap, subst, ◌∙◌}
+use Rattle.std.proofs.Common.{◌≡◌, ◌++◌, ℕ, Bool, true, false, true≢false, List, Option, Result, Ok, Err, IsErr, IsErrAnd, inr, refl, sym, ap, subst, ◌∙◌}
 use Rattle.std.specs.Io.KnownBytes.{Appends}
 use Rattle.std.proofs.lemmas.Bool.{eq-eqb}
-use Rattle.std.proofs.KnownBytes.{Appends-nil, Appends-trans}
 use Rattle.net_streams.specs.Streams.{IsFresh, Sink, Wrote}
-use Rattle.net_udp.specs.Recording.{Step}
 use Rattle.audit_recording.specs.Blame.Frames.{Carried, whole_of}
-use Rattle.audit_recording.specs.Session.Lines.{lines_told}
-use Rattle.audit_recording.specs.Session.Noted.{AreNotesOf, Noticed, told_in}
+use Rattle.audit_recording.specs.Session.Noted.{Noticed}
 use Rattle.audit_recording.specs.Session.Opened.{IsReadWhole}
-use Rattle.audit_recording.specs.Session.Texts.{IsTextAt, IsTextFault, IsWhole, is_wanted, ordinal, text_of}
-use Rattle.audit_recording.specs.declared.session.fault.TextFault.{TextFault}
+use Rattle.audit_recording.specs.Session.Texts.{IsTextAt, IsWhole, is_wanted, ordinal, text_of}
 use Rattle.audit_recording.specs.declared.session.kept.Wanted.{Wanted}
 use Rattle.audit_recording.specs.declared.session.kept.Wanted.TheVariants.{All, One}
 use Rattle.audit_recording.specs.declared.session.notes.Notes.{Notes}
 use Rattle.audit_recording.specs.declared.session.session.Session.{Session}
 use Rattle.audit_recording.specs.declared.session.text.TextAt.{TextAt}
-use Rattle.tftp_rows.specs.Faults.{IsRemarkFault, IsToldFor}
+use Rattle.tftp_rows.specs.Faults.{IsRemarkFault}
 use Rattle.tftp_rows.specs.Faults.Why.{Unopened, Stopped}
-use Rattle.tftp_rows.specs.Remarks.{SaysPart, remarks_text}
-use Rattle.tftp_rows.specs.Texts.{IsNoted, IsRecordingRead, IsText, IsTextStopped, IsTextWritten, WritesFileText, WritesText, noticed_by}
+use Rattle.tftp_rows.specs.Remarks.{SaysPart}
+use Rattle.tftp_rows.specs.Texts.{IsNoted, IsRecordingRead, IsText, IsTextStopped, WritesFileText, WritesText}
 use Rattle.tftp_rows.specs.declared.reading.TellFault.{TellFault}
 use Rattle.tftp_rows.specs.declared.remarks.Remarks.{Remarks}
 use Rattle.tftp_rows.specs.declared.texts.TextsOf.{TextsOf}

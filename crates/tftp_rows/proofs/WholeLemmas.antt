@@ -3,7 +3,6 @@ use Rattle.std.proofs.Common.{◌≡◌, ◌⊎◌, ◌∷◌, ◌++◌, ◌+◌
 use Rattle.net_udp.specs.Recording.{Step}
 use Rattle.audit_flows.specs.Lines.{same_address}
 use Rattle.audit_recording.specs.Blame.Frames.{Carried}
-use Rattle.audit_recording.specs.Blame.Spoilt.{all_checked}
 use Rattle.audit_recording.specs.Losses.Noted.{IsAsked}
 use Rattle.audit_recording.specs.Session.Kept.{IsSessionOf}
 use Rattle.audit_recording.specs.Session.Noted.{Noticed, giving_up, nothing_noticed}
@@ -11,7 +10,6 @@ use Rattle.audit_recording.specs.Session.Over.{IsOldestOver}
 use Rattle.audit_recording.specs.Session.Recording.{IsNoticedOf}
 use Rattle.audit_recording.specs.declared.judges.judging.Judging.{Judging}
 use Rattle.audit_recording.specs.declared.session.session.Session.{Session}
-use Rattle.audit_recording.proofs.SessionLemmas.Seen.{seen_all}
 use Rattle.audit_rows.specs.{IsJudgedOf}
 use Rattle.audit_rows.specs.declared.judged.Judged.{Judged}
 use Rattle.tftp_rows.specs.Printing.{PrintsPart, verdict_lines}
@@ -45,14 +43,6 @@ module _ {W : Type 0} (contents : W → Option (List ℕ)) where
   whole_part p = record { next_frames = []; next_carried = []; frames = refl; datagrams = refl }
 
   module _ (named : List ℕ) (history : List Step) (carried : List Carried) (s : Noticed) where
-    -- what the checksums tell is the same with what has waited in vain or without
-    seen_then : (began : Noticed) (waited : List ℕ) → IsNoticedOf named history carried began → (began ≡ s) ⊎ (giving_up waited began ≡ s) → s.seen ≡ all_checked named carried
-    seen_then began waited came how =
-        elim how [
-          | inl same ↦ ap (λ (r : Noticed). r.seen) (sym same) ∙ seen_all named history carried began came
-          | inr same ↦ ap (λ (r : Noticed). r.seen) (sym same) ∙ seen_all named history carried began came
-        ]
-
     -- what may be missing of the next transfer, by what was noticed, with what has waited in vain or without
     missing_then : (began : Noticed) (waited : List ℕ) (t u : Teller W) (before after : Session) (out : List ℕ) → IsNoticedOf named history carried began
         → (began ≡ s) ⊎ (giving_up waited began ≡ s)
@@ -78,7 +68,8 @@ module _ {W : Type 0} (contents : W → Option (List ℕ)) where
       due = due;
       of = subst (λ k. IsJudgedOf step.judged k step.transfer named carried) e step.of;
       missing = missing_then began waited t u before after (numbers_of ts) came how step;
-      beside = step.beside (seen_then began waited came how);
+      beside = step.beside;
+      undelivered = step.undelivered;
       until = step.until;
       rows = subst (λ n. AreRowsAt begun.file.now n step.judged (places_of step.judged) step.rows.rows) (one_more t.told u.told (length ts) step.number number)
           (subst (λ f. AreRowsAt f.now u.told step.judged (places_of step.judged) step.rows.rows) file step.rows.are);
@@ -156,6 +147,7 @@ module _ {W : Type 0} (contents : W → Option (List ℕ)) where
       of = told.2.of;
       missing = told.2.missing;
       beside = told.2.beside;
+      undelivered = told.2.undelivered;
       until = told.2.until;
       rows = told.2.rows;
     },

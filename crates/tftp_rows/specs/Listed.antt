@@ -10,6 +10,7 @@ use Rattle.audit_recording.specs.Blame.Frames.{Carried, framed, view_of, whole_o
 use Rattle.audit_recording.specs.Blame.Kept.{IsTrailOf, first_frame, last_frame}
 use Rattle.audit_recording.specs.Endings.Told.{IsEnding}
 use Rattle.audit_recording.specs.Endings.Undelivered.{undelivered_of}
+use Rattle.audit_recording.specs.Session.Heard.{IsUndeliveredOf}
 use Rattle.audit_recording.specs.Session.Kept.{IsSessionOf}
 use Rattle.audit_recording.specs.Session.Noted.{Noticed}
 use Rattle.audit_recording.specs.Session.Trails.{opening_of}
@@ -64,6 +65,7 @@ pub record ListsNext {W : Type 0} (contents : W → Option (List ℕ)) (old new 
   pub next : IsNext transfer named out carried
   pub trail : Trail
   pub kept : IsTrailOf trail Nowhere transfer named carried
+  pub undelivered : IsUndeliveredOf trail.undelivered transfer named history carried
   pub of : IsListRowOf row new.told trail (moment_of s) transfer named carried
   pub prints : PrintsAll contents list_lines old.printer new.printer (row ∷ [])
   pub number : new.told ≡ min (old.told + 1) (2 ^ 64 - 1)
@@ -71,18 +73,19 @@ pub record ListsNext {W : Type 0} (contents : W → Option (List ℕ)) (old new 
   pub handed_out : IsSessionOf after named (transfer.number ∷ out) history carried s
 
 -- The next transfer was listed in part: of its row.
-pub record ListsNextPart {W : Type 0} (contents : W → Option (List ℕ)) (old new : Lister W) (named out : List ℕ) (carried : List Carried) (s : Noticed) : Type 0 where
+pub record ListsNextPart {W : Type 0} (contents : W → Option (List ℕ)) (old new : Lister W) (named out : List ℕ) (history : List Step) (carried : List Carried) (s : Noticed) : Type 0 where
   pub transfer : Transfer
   pub next : IsNext transfer named out carried
   pub trail : Trail
   pub kept : IsTrailOf trail Nowhere transfer named carried
+  pub undelivered : IsUndeliveredOf trail.undelivered transfer named history carried
   pub row : ListRow
   pub of : IsListRowOf row (min (old.told + 1) (2 ^ 64 - 1)) trail (moment_of s) transfer named carried
   pub prints : PrintsPart contents list_lines old.printer new.printer (row ∷ [])
 
 -- A call has failed: the next transfer was listed in part, or nothing was printed.
-abbrev pub ListsPart : {W : Type 0} → (W → Option (List ℕ)) → Lister W → Lister W → List ℕ → List ℕ → List Carried → Noticed → Type 0
-ListsPart contents old new named out carried s = (new.printer ≡ old.printer) ⊎ ListsNextPart contents old new named out carried s
+abbrev pub ListsPart : {W : Type 0} → (W → Option (List ℕ)) → Lister W → Lister W → List ℕ → List ℕ → List Step → List Carried → Noticed → Type 0
+ListsPart contents old new named out history carried s = (new.printer ≡ old.printer) ⊎ ListsNextPart contents old new named out history carried s
 
 -- These rows were printed, one after another: each is that of the transfer that was the next one then, and this held of the session from
 -- which it was handed out.
@@ -105,4 +108,4 @@ pub record ListsTurnsPart {W : Type 0} (contents : W → Option (List ℕ)) (Hol
   pub mid : Lister W
   pub between : Session
   pub turns : ListsTurns contents Holds old mid between named out history carried s
-  pub part : (new.printer ≡ mid.printer) ⊎ (Holds between × ListsNextPart contents mid new named turns.left carried s)
+  pub part : (new.printer ≡ mid.printer) ⊎ (Holds between × ListsNextPart contents mid new named turns.left history carried s)

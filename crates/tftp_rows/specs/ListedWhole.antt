@@ -7,6 +7,7 @@ use Rattle.audit_flows.specs.{Transfer}
 use Rattle.audit_recording.specs.Blame.Frames.{Carried, whole_of}
 use Rattle.audit_recording.specs.Blame.Kept.{IsTrailOf}
 use Rattle.audit_recording.specs.Judges.{is_among, opened}
+use Rattle.audit_recording.specs.Session.Heard.{IsUndeliveredOf}
 use Rattle.audit_recording.specs.Session.Kept.{IsSessionAfter}
 use Rattle.audit_recording.specs.Session.Noted.{AreNotesOf, Noticed, frames_in, giving_up}
 use Rattle.audit_recording.specs.Session.Opened.{HasEnded, IsSessionClosed}
@@ -51,6 +52,7 @@ pub record IsListedNext (named : List ℕ) (end : Option Part) (p : Part) (e : E
   pub next : IsNext e.transfer named (numbers_in older) p.carried
   pub due : IsDue end named p e.trail
   pub kept : IsTrailOf e.trail Nowhere e.transfer named p.carried
+  pub undelivered : IsUndeliveredOf e.trail.undelivered e.transfer named p.history p.carried
   pub row : IsListRowOf e.row (counted_in (e ∷ older)) e.trail (moment_of p.noticed) e.transfer named p.carried
 
 -- each was the next one, and all was known of it, by what had been read when it was listed: a part of all

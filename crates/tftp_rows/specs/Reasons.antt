@@ -38,6 +38,6 @@ reason_text (LeftOut frame) = codes "frame " ++ decimal frame ++ codes " is out 
 reason_text (Lost frame) = codes "frame " ++ decimal frame ++ codes " is not there whole"
 reason_text (Copied frame) = codes "frame " ++ decimal frame ++ codes " may be a copy of the one before"
 reason_text (Damaged frame) = codes "frame " ++ decimal frame ++ codes " was received with an error, so that its host discarded it"
-reason_text (Discarded frame) = codes "frame " ++ decimal frame ++ codes " has a wrong checksum, so that its host discarded it"
+reason_text (Discarded frame) = codes "frame " ++ decimal frame ++ codes " has a wrong checksum, so that its host may have discarded it"
 reason_text (Dropped count) = dropped_text count
 reason_text reason = words_of reason

@@ -12,8 +12,8 @@ use Rattle.audit_recording.specs.Judges.{is_among, opened}
 use Rattle.audit_recording.specs.Losses.Noted.{IsAsked, IsFirst, IsMissingOf, IsTold, Since}
 use Rattle.audit_recording.specs.Reasons.Clock.{last_of}
 use Rattle.audit_recording.specs.Rows.Told.{refused_frame, rows_told, status_of}
-use Rattle.audit_recording.specs.Blame.Spoilt.{all_checked}
-use Rattle.audit_recording.specs.Session.HandedOut.{IsToldBeside}
+use Rattle.audit_recording.specs.Session.Beside.{IsMarkedBy}
+use Rattle.audit_recording.specs.Session.Heard.{IsUndeliveredOf}
 use Rattle.audit_recording.specs.Session.Kept.{IsSessionOf}
 use Rattle.audit_recording.specs.Session.Noted.{Noticed, stretch_of}
 use Rattle.audit_recording.specs.Session.Recording.{reached_by}
@@ -184,7 +184,8 @@ pub record TellsNext {W : Type 0} (contents : W → Option (List ℕ)) (old new 
   pub missing : IsFirst (IsMissingOf judged.trail.transfer.client.address s.events) judged.doubted.missing.first
   pub within : IsAsked (λ host. same_address host judged.trail.transfer.client.address) judged.trail.first s.events
       → IsTold (Since (IsMissingOf judged.trail.transfer.client.address s.events) (stretch_of judged.trail)) (stretch_of judged.trail) judged.doubted.missing.within
-  pub beside : s.seen ≡ all_checked named carried → IsToldBeside judged.trail transfer named carried s.beside
+  pub beside : IsMarkedBy transfer.number s.beside judged.trail
+  pub undelivered : IsUndeliveredOf judged.trail.undelivered transfer named history carried
   pub until : judged.until ≡ max (last_of s.times) (reached_by s.times)
   pub rows : TellsRowsAt contents (record old { told = new.told }) new judged (places_of judged)
   pub number : new.told ≡ min (old.told + 1) (2 ^ 64 - 1)

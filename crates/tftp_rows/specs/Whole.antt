@@ -11,7 +11,9 @@ use Rattle.audit_recording.specs.Blame.Frames.{Carried, whole_of}
 use Rattle.audit_recording.specs.Judges.{is_among, opened}
 use Rattle.audit_recording.specs.Losses.Noted.{Event, IsFirst, IsMissingOf, IsTold, Since, is_soon}
 use Rattle.audit_recording.specs.Reasons.Clock.{last_of}
-use Rattle.audit_recording.specs.Session.HandedOut.{IsToldBeside}
+use Rattle.audit_recording.specs.Reasons.Listed.{up_to}
+use Rattle.audit_recording.specs.Session.Beside.{IsMarkedBy, Mark, discarded_beside, left_out_of}
+use Rattle.audit_recording.specs.Session.Heard.{IsUndeliveredOf}
 use Rattle.audit_recording.specs.Session.Kept.{IsSessionAfter}
 use Rattle.audit_recording.specs.Session.Noted.{AreNotesOf, Noticed, frames_in, giving_up, stretch_of}
 use Rattle.audit_recording.specs.Session.Opened.{HasEnded, IsSessionClosed, lost_in}
@@ -84,14 +86,15 @@ abbrev pub counted : List Telling → ℕ
 counted tellings = min (length tellings) (2 ^ 64 - 1)
 
 -- By this part of the recording it is the next transfer behind the older ones, and all is known of it. What there is to say of it is what the
--- part says, with what may be missing of it, and with what was left out or discarded that may have been of it; and the rows are those of all its
--- verdicts.
+-- part says, with what may be missing of it, with what was left out or discarded that may have been of it, and with what did not arrive of it;
+-- and the rows are those of all its verdicts.
 pub record IsToldNext (name : List ℕ) (judging : Judging) (named : List ℕ) (end : Option Part) (p : Part) (t : Telling) (older : List Telling) : Type 0 where
   pub next : IsNext t.transfer named (numbers_of older) p.carried
   pub due : IsDue end named p t.judged.trail
   pub of : IsJudgedOf t.judged judging t.transfer named p.carried
   pub missing : AreMissing t.judged.doubted.missing t.judged.trail p.noticed
-  pub beside : IsToldBeside t.judged.trail t.transfer named p.carried p.noticed.beside
+  pub beside : IsMarkedBy t.transfer.number p.noticed.beside t.judged.trail
+  pub undelivered : IsUndeliveredOf t.judged.trail.undelivered t.transfer named p.history p.carried
   pub until : t.judged.until ≡ moment_of p.noticed
   pub rows : AreRowsAt name (counted (t ∷ older)) t.judged (places_of t.judged) t.rows
 
@@ -143,6 +146,15 @@ AreLacking events [] = Unit {0}
 AreLacking events (t ∷ older) =
     ((n time : ℕ) → IsMissingOf t.transfer.client.address events n time → is_soon (stretch_of t.judged.trail) n time ≡ true
     → (first : ℕ) × (t.judged.doubted.missing.first ≡ Some first) × (first ≤ n)) × AreLacking events older
+
+-- By these marks: the frame that is told as left out is the one that was, and so is the one that was discarded, of those up to its last frame.
+pub record IsBesideTold (marks : List Mark) (t : Telling) : Type 0 where
+  pub left_out : t.judged.trail.left_out ≡ left_out_of t.transfer.number marks
+  pub discarded : (frame : ℕ) → frame ≤ t.judged.trail.last → up_to frame t.judged.trail.discarded ≡ up_to frame (discarded_beside t.transfer.number marks)
+
+-- so of each
+abbrev pub AreBeside : List Mark → List Telling → Type 0
+AreBeside marks tellings = AllByRecursion (IsBesideTold marks) tellings
 
 -- ---- what was read of a file, whose bytes are told or not
 

@@ -96,7 +96,7 @@ impl<W: Write + Drop> Lister<W> {
         ensures told { (named out : List ℕ) (history : List Step) (carried : List Carried) (s : Noticed) → IsSessionOf session.old named out history carried s
             → result ≡ Ok true → (row : ListRowKind) × ListsNext W.Write.contents self.old self.new row session.new named out history carried s }
         ensures part { (named out : List ℕ) (history : List Step) (carried : List Carried) (s : Noticed) → IsSessionOf session.old named out history carried s
-            → OnErr result (ListsPart W.Write.contents self.old self.new named out carried s) }
+            → OnErr result (ListsPart W.Write.contents self.old self.new named out history carried s) }
         ensures nothing { result ≡ Ok false → self.new ≡ self.old }
         ensures notes { session.new.notes ≡ session.old.notes }
         ensures same_session { (named out : List ℕ) (history : List Step) (carried : List Carried) (s : Noticed) → IsSessionOf session.old named out history carried s

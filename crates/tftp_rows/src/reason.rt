@@ -35,7 +35,7 @@ impl fmt::Display for ReasonWords {
             Reason::Discarded(frame) => {
                 write!(
                     f,
-                    "frame {frame} has a wrong checksum, so that its host discarded it"
+                    "frame {frame} has a wrong checksum, so that its host may have discarded it"
                 )
             }
             Reason::Dropped(1) => f.write_str("the recorder lost 1 packet"),

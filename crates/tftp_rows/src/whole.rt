@@ -17,7 +17,7 @@ ghost use Rattle.audit_rows.specs.{IsJudgedOf};
 ghost use Rattle.audit_rows.specs.declared.judged.Judged.{Judged as JudgedKind};
 ghost use Rattle.tftp_rows.specs.Printing.{PrintsAll, verdict_lines};
 ghost use Rattle.tftp_rows.specs.Telling.{JudgesAs, PrintsAllWith, TellsTurns};
-ghost use Rattle.tftp_rows.specs.Whole.{AreInOrder, AreLacking, AreOf, AreTold, HasTold, HasToldAll, IsPartOf, IsRecordingTold, Part, Telling, numbers_of, so_far, worst_of};
+ghost use Rattle.tftp_rows.specs.Whole.{AreBeside, AreInOrder, AreLacking, AreOf, AreTold, HasTold, HasToldAll, IsPartOf, IsRecordingTold, Part, Telling, numbers_of, so_far, worst_of};
 ghost use Rattle.tftp_rows.specs.declared.teller.Teller.{Teller as TellerKind};
 
 use std::io::Write;
@@ -51,8 +51,9 @@ pub fn recordings_are_told_in_order<W: Write + Drop>()
 /// What is told of a transfer is what the whole recording says of it: once it is over, whatever comes later, it is the same transfer, and
 /// its verdicts, the datagrams that they blame, and what the division doubts are the same (`over`). So each transfer that was told of a
 /// recording is one that the whole recording has, and its rows are those of its verdicts by the whole (`whole`). And no frame that the
-/// whole recording lacks of it is left out of its doubts (`missing`). Of the frames that are told as not there whole each is told once
-/// (`once`), and as nothing else (`alone`), where memory did not run out.
+/// whole recording lacks of it is left out of its doubts (`missing`), nor what by the whole recording was left out or discarded, and may
+/// have been of it (`beside`). Of the frames that are told as not there whole each is told once (`once`), and as nothing else (`alone`),
+/// where memory did not run out.
 pub fn what_is_told_is_of_the_whole_recording<W: Write + Drop>()
     ensures over { (j : JudgedKind) (judging : JudgingKind) (x : Transfer) (named : List ℕ) (carried later : List Carried) (s : Noticed) → opened x.number (whole_of named carried) ≡ Some x
         → IsJudgedOf j judging x named carried → IsOver j.trail named carried s
@@ -61,6 +62,8 @@ pub fn what_is_told_is_of_the_whole_recording<W: Write + Drop>()
         → (told : IsRecordingTold W.Write.contents begun now file judging named notes) → AreOf begun.file.now judging named told.carried told.tellings }
     ensures missing { (begun now : TellerKind W) (file : Option (List ℕ)) (judging : JudgingKind) (named : List ℕ) (notes : NotesKind)
         → (told : IsRecordingTold W.Write.contents begun now file judging named notes) → AreLacking (giving_up (frames_in told.recording.waiting) told.noticed).events told.tellings }
+    ensures beside { (begun now : TellerKind W) (file : Option (List ℕ)) (judging : JudgingKind) (named : List ℕ) (notes : NotesKind)
+        → (told : IsRecordingTold W.Write.contents begun now file judging named notes) → AreBeside told.noticed.beside told.tellings }
     ensures once { (begun now : TellerKind W) (file : Option (List ℕ)) (judging : JudgingKind) (named : List ℕ) (notes : NotesKind)
         → (told : IsRecordingTold W.Write.contents begun now file judging named notes) → told.recording.refused ≡ None
         → AreEachOnce (told_in (giving_up (frames_in told.recording.waiting) told.noticed)).lost }

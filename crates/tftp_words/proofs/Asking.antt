@@ -1,8 +1,8 @@
 -- What the words ask for, by the command.
-use Rattle.std.proofs.Common.{◌≡◌, ◌≢◌, inl, inr, ℕ, List, [], ◌∷◌, drop, Option, Some, None, codes, slice_get, get_or, refl, sym, ap, ◌∙◌, subst, arith, ◌≤◌, length, map, Bool, true, false, if◌then◌else◌, option_to_list, Bor}
+use Rattle.std.proofs.Common.{◌≡◌, ◌≢◌, inl, inr, ℕ, List, [], ◌∷◌, drop, Option, Some, None, codes, slice_get, get_or, refl, sym, ap, ◌∙◌, subst, arith, ◌≤◌, length, map, Bool, true, false, if◌then◌else◌, option_to_list, Bor, ◌==◌}
 use Rattle.std.proofs.lemmas.Option.{slice_get_within}
 use Rattle.tftp_packet.specs.{Rollover}
-use Rattle.tftp_words.specs.{Point, Command, Word, Part, Say, Have, IsOnce, IsTransfer, end_word, plains, Asked, Listed, Written, AllWritten, Judged, Argues, IsRequest, IsNoName, Names, Calls}
+use Rattle.tftp_words.specs.{Point, Command, Word, Part, Say, Have, Choose, IsOnce, IsTransfer, end_word, plains, Asked, Listed, Written, AllWritten, Judged, Fits, Argues, IsRequest, IsNoName, Names, Calls, MatchAsked, Matched, Compares, IsMatchRequest}
 use Rattle.tftp_words.specs.declared.request.Command.TheVariants as command
 
 -- the arguments of what is asked
@@ -124,23 +124,26 @@ at_most_one : (json : Bool) → (if json then 1 else 0) ≤ 1
 at_most_one true = omega arith
 at_most_one false = omega arith
 
-one_point : (at : Option Point) → length (option_to_list at) ≤ 1
-one_point None = omega arith
-one_point (Some x) = omega arith
+one_said : {A : Type 0} (said : Option A) → length (option_to_list said) ≤ 1
+one_said None = omega arith
+one_said (Some x) = omega arith
 
-one_rollover : (over : Option Rollover) → length (option_to_list over) ≤ 1
-one_rollover None = omega arith
-one_rollover (Some x) = omega arith
-
-once : (ps : List Part) (ports : List ℕ) (json : Bool) (at : Option Point) (over : Option Rollover) (words : List Word) → Have ps ports json at over words → IsOnce ps
-once ps ports json at over words h =
-    (subst (λ n. n ≤ 1) (sym h.1) (at_most_one json), subst (λ l. length l ≤ 1) (sym h.2) (one_point at), subst (λ l. length l ≤ 1) (sym h.3) (one_rollover over))
+pub once : (ps : List Part) (ports : List ℕ) (json : Bool) (at : Option Point) (over : Option Rollover) (words : List Word) (counts : Bool) (transfer server : Option ℕ)
+    → Have ps ports json at over words → Choose ps counts transfer server → IsOnce ps
+once ps ports json at over words counts transfer server h chosen = (
+  subst (λ n. n ≤ 1) (sym h.1) (at_most_one json),
+  subst (λ l. length l ≤ 1) (sym h.2) (one_said at),
+  subst (λ l. length l ≤ 1) (sym h.3) (one_said over),
+  subst (λ n. n ≤ 1) (sym chosen.0) (at_most_one counts),
+  subst (λ l. length l ≤ 1) (sym chosen.1) (one_said transfer),
+  subst (λ l. length l ≤ 1) (sym chosen.2) (one_said server),
+)
 
 argues_once : (a : Asked) (ps : List Part) → Argues a ps → IsOnce ps
-argues_once (Listed services json file) ps argues = once ps services json None None (file ∷ []) argues
-argues_once (Written number end services file) ps argues = once ps services false None None (argues.0 ∷ end_word end ∷ file ∷ []) argues.2
-argues_once (AllWritten end services file) ps argues = once ps services false None None (end_word end ∷ file ∷ []) argues
-argues_once (Judged at over services json files) ps argues = once ps services json at over files argues.2
+argues_once (Listed services json file) ps argues = once ps services json None None (file ∷ []) false None None argues.1 argues.0
+argues_once (Written number end services file) ps argues = once ps services false None None (argues.1.0 ∷ end_word end ∷ file ∷ []) false None None argues.1.2 argues.0
+argues_once (AllWritten end services file) ps argues = once ps services false None None (end_word end ∷ file ∷ []) false None None argues.1 argues.0
+argues_once (Judged at over services json files) ps argues = once ps services json at over files false None None argues.1.2 argues.0
 
 pub the_arguments : (a : Asked) (w : Word) (ws : List Word) (c : Command) (k : ℕ) → IsRequest a ws → slice_get ws 1 ≡ Some w → Names w c k → Calls c a × (ps : List Part) × Say (drop k ws) ps × IsOnce ps × Argues a ps
 the_arguments a w ws c k request at names =
@@ -156,9 +159,62 @@ count_fits w ws command.Texts k at (two, is) = omega (arith, two, slice_get_with
 count_fits w ws command.Check k at (two, is) = omega (arith, two, slice_get_within ws 1 w at)
 
 -- no transfer has this number
-pub no_number : (items : List (Bor Word)) (d : Bor Word) (ps : List Part) (a : Asked) → plains ps ≡ map (λ (w : Bor Word). w.now) items → Calls command.Text a → Argues a ps → ((n : ℕ) → IsTransfer (get_or items 0 d).now n → ⊥) → ⊥
+pub no_number : (items : List (Bor Word)) (d : Bor Word) (ps : List Part) (a : Asked) → plains ps ≡ map (λ (w : Bor Word). w.now) items → Calls command.Text a → Fits a ps → ((n : ℕ) → IsTransfer (get_or items 0 d).now n → ⊥) → ⊥
 no_number [] d ps (Written number end services file) are calls argues none = (let bad : [] ≡ argues.0 ∷ end_word end ∷ file ∷ [] = sym are ∙ argues.2.4 in cc)
 no_number (x ∷ items) d ps (Written number end services file) are calls argues none =
     let same : argues.0 ≡ x.now = ap (λ l. get_or l 0 []) (sym argues.2.4 ∙ are) in
     none number (subst (λ t. IsTransfer t number) same argues.1)
 no_number items d ps _ are calls argues none = calls
+
+-- ---- a match
+
+pub first_word : (ws : List Word) → (length ws == 0) ≡ false → (program : Word) × (ws ≡ program ∷ drop 1 ws)
+first_word [] some = cc
+first_word (program ∷ ws) some = (program, refl)
+
+pub compares_once : (a : MatchAsked) (ps : List Part) → Compares a ps → IsOnce ps
+compares_once (Matched client server transfer server_transfer services over counts json) ps compares =
+    once ps services json None over (client ∷ server ∷ []) counts transfer server_transfer compares.1 compares.2
+
+pub match_arguments : (a : MatchAsked) (ws : List Word) → IsMatchRequest a ws → (ps : List Part) × Say (drop 1 ws) ps × IsOnce ps × Compares a ps
+match_arguments a ws (program, arguments, are, ps, say, compares) =
+    (ps, subst (λ l. Say l ps) (sym (ap (drop 1) are)) say, compares_once a ps compares, compares)
+
+-- how often a flag is said
+abbrev times : Bool → ℕ
+times flag = if flag then 1 else 0
+
+same_flag : (a b : Bool) → times a ≡ times b → a ≡ b
+same_flag true true e = refl
+same_flag true false e = absurd (omega (arith, e))
+same_flag false true e = absurd (omega (arith, e))
+same_flag false false e = refl
+
+same_said : {A : Type 0} (a b : Option A) → option_to_list a ≡ option_to_list b → a ≡ b
+same_said None None e = refl
+same_said None (Some y) e = cc
+same_said (Some x) None e = cc
+same_said (Some x) (Some y) e = cc
+
+-- what the parts have is one match
+pub same_match : (a : MatchAsked) (ps : List Part) (client server : Word) (transfer server_transfer : Option ℕ) (ports : List ℕ) (over : Option Rollover) (counts json : Bool) (at : Option Point) (words : List Word)
+    → Have ps ports json at over words → Choose ps counts transfer server_transfer → words ≡ client ∷ server ∷ [] → Compares a ps → Matched client server transfer server_transfer ports over counts json ≡ a
+same_match (Matched client' server' transfer' server_transfer' ports' over' counts' json') ps client server transfer server_transfer ports over counts json at words h chosen are compares =
+    let its = compares.1 in
+    let chosen_too = compares.2 in
+    let files : client ∷ server ∷ [] ≡ client' ∷ server' ∷ [] = sym are ∙ sym h.4 ∙ its.4 in
+    let a : client ≡ client' = cc in
+    let b : server ≡ server' = cc in
+    let c : transfer ≡ transfer' = same_said transfer transfer' (sym chosen.1 ∙ chosen_too.1) in
+    let d : server_transfer ≡ server_transfer' = same_said server_transfer server_transfer' (sym chosen.2 ∙ chosen_too.2) in
+    let e : ports ≡ ports' = sym h.0 ∙ its.0 in
+    let f : over ≡ over' = same_said over over' (sym h.3 ∙ its.3) in
+    let g : counts ≡ counts' = same_flag counts counts' (sym chosen.0 ∙ chosen_too.0) in
+    let i : json ≡ json' = same_flag json json' (sym h.1 ∙ its.1) in
+    cc
+
+pub two_items : (items : List (Bor Word)) (d : Bor Word) → length items ≡ 2 → map (λ w. w.now) items ≡ (get_or items 0 d).now ∷ (get_or items 1 d).now ∷ []
+two_items [] d two = absurd (omega (arith, two))
+two_items (x ∷ []) d two = absurd (omega (arith, two))
+two_items (x ∷ y ∷ []) d two = refl
+two_items (x ∷ y ∷ z ∷ items) d two = absurd (omega (arith, two))

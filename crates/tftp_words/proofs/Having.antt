@@ -1,8 +1,8 @@
 -- What more parts have.
-use Rattle.std.proofs.Common.{◌≡◌, ℕ, ◌+◌, List, [], ◌∷◌, ◌++◌, length, Bool, true, Option, Some, None, option_to_list, is_some, false, map, Bor, refl, ap, ◌∙◌, append-nil, arith}
+use Rattle.std.proofs.Common.{◌≡◌, ℕ, ◌+◌, List, [], ◌∷◌, ◌++◌, length, Bool, true, Option, Some, None, option_to_list, is_some, false, map, Bor, refl, sym, ap, ◌∙◌, ◌≤◌, append-nil, arith}
 use Rattle.std.proofs.lemmas.List.{map-append}
 use Rattle.tftp_packet.specs.{Rollover}
-use Rattle.tftp_words.specs.{Point, Word, Part, Service, Json, At, Again, Plain, services, jsons, points, rollovers, plains, Have, IsOnce}
+use Rattle.tftp_words.specs.{Point, Word, Part, Service, Json, At, Again, Counts, Transfer, ServerTransfer, Plain, services, jsons, points, rollovers, plains, countings, transfers, server_transfers, Have, Choose, IsOnce}
 
 services-append : (ps qs : List Part) → services (ps ++ qs) ≡ services ps ++ services qs
 services-append [] qs = refl
@@ -77,26 +77,105 @@ have_plain ps ports json at over words word h = (
   plains-append ps (Plain word ∷ []) ∙ ap (λ xs. xs ++ word ∷ []) h.4,
 )
 
+-- ---- what `tftp-match` alone can be asked for
+
+countings-append : (ps qs : List Part) → countings (ps ++ qs) ≡ countings ps + countings qs
+countings-append [] qs = omega arith
+countings-append (Counts ∷ ps) qs = omega (arith, countings-append ps qs)
+countings-append (_ ∷ ps) qs = countings-append ps qs
+
+transfers-append : (ps qs : List Part) → transfers (ps ++ qs) ≡ transfers ps ++ transfers qs
+transfers-append [] qs = refl
+transfers-append (Transfer number ∷ ps) qs = ap (λ xs. number ∷ xs) (transfers-append ps qs)
+transfers-append (_ ∷ ps) qs = transfers-append ps qs
+
+server_transfers-append : (ps qs : List Part) → server_transfers (ps ++ qs) ≡ server_transfers ps ++ server_transfers qs
+server_transfers-append [] qs = refl
+server_transfers-append (ServerTransfer number ∷ ps) qs = ap (λ xs. number ∷ xs) (server_transfers-append ps qs)
+server_transfers-append (_ ∷ ps) qs = server_transfers-append ps qs
+
+-- a part that neither wants counts nor chooses a transfer
+pub choose_beside : (ps : List Part) (p : Part) (counts : Bool) (transfer server : Option ℕ) → countings (p ∷ []) ≡ 0 → transfers (p ∷ []) ≡ [] → server_transfers (p ∷ []) ≡ []
+    → Choose ps counts transfer server → Choose (ps ++ p ∷ []) counts transfer server
+choose_beside ps p counts transfer server zero none nothing h = (
+  omega (arith, countings-append ps (p ∷ []), zero, h.0),
+  transfers-append ps (p ∷ []) ∙ ap (λ xs. transfers ps ++ xs) none ∙ append-nil (transfers ps) ∙ h.1,
+  server_transfers-append ps (p ∷ []) ∙ ap (λ xs. server_transfers ps ++ xs) nothing ∙ append-nil (server_transfers ps) ∙ h.2,
+)
+
+-- a part that does nothing else
+pub have_beside : (ps : List Part) (p : Part) (ports : List ℕ) (json : Bool) (at : Option Point) (over : Option Rollover) (words : List Word)
+    → services (p ∷ []) ≡ [] → jsons (p ∷ []) ≡ 0 → points (p ∷ []) ≡ [] → rollovers (p ∷ []) ≡ [] → plains (p ∷ []) ≡ [] → Have ps ports json at over words → Have (ps ++ p ∷ []) ports json at over words
+have_beside ps p ports json at over words a b c d e h = (
+  services-append ps (p ∷ []) ∙ ap (λ xs. services ps ++ xs) a ∙ append-nil (services ps) ∙ h.0,
+  omega (arith, jsons-append ps (p ∷ []), b, h.1),
+  points-append ps (p ∷ []) ∙ ap (λ xs. points ps ++ xs) c ∙ append-nil (points ps) ∙ h.2,
+  rollovers-append ps (p ∷ []) ∙ ap (λ xs. rollovers ps ++ xs) d ∙ append-nil (rollovers ps) ∙ h.3,
+  plains-append ps (p ∷ []) ∙ ap (λ xs. plains ps ++ xs) e ∙ append-nil (plains ps) ∙ h.4,
+)
+
+pub choose_counts : (ps : List Part) (counts : Bool) (transfer server : Option ℕ) → counts ≡ false → Choose ps counts transfer server → Choose (ps ++ Counts ∷ []) true transfer server
+choose_counts ps true transfer server not h = cc
+choose_counts ps false transfer server not h = (
+  omega (arith, countings-append ps (Counts ∷ []), h.0),
+  transfers-append ps (Counts ∷ []) ∙ append-nil (transfers ps) ∙ h.1,
+  server_transfers-append ps (Counts ∷ []) ∙ append-nil (server_transfers ps) ∙ h.2,
+)
+
+pub choose_transfer : (ps : List Part) (counts : Bool) (transfer server : Option ℕ) (number : ℕ) → is_some transfer ≡ false → Choose ps counts transfer server → Choose (ps ++ Transfer number ∷ []) counts (Some number) server
+choose_transfer ps counts (Some x) server number not h = cc
+choose_transfer ps counts None server number not h = (
+  omega (arith, countings-append ps (Transfer number ∷ []), h.0),
+  transfers-append ps (Transfer number ∷ []) ∙ ap (λ xs. xs ++ number ∷ []) h.1,
+  server_transfers-append ps (Transfer number ∷ []) ∙ append-nil (server_transfers ps) ∙ h.2,
+)
+
+pub choose_server_transfer : (ps : List Part) (counts : Bool) (transfer server : Option ℕ) (number : ℕ) → is_some server ≡ false → Choose ps counts transfer server → Choose (ps ++ ServerTransfer number ∷ []) counts transfer (Some number)
+choose_server_transfer ps counts transfer (Some x) number not h = cc
+choose_server_transfer ps counts transfer None number not h = (
+  omega (arith, countings-append ps (ServerTransfer number ∷ []), h.0),
+  transfers-append ps (ServerTransfer number ∷ []) ∙ append-nil (transfers ps) ∙ h.1,
+  server_transfers-append ps (ServerTransfer number ∷ []) ∙ ap (λ xs. xs ++ number ∷ []) h.2,
+)
+
+pub chooses_nothing : (ps : List Part) (counts : Bool) (transfer server : Option ℕ) → Choose ps counts transfer server → Choose ps false None None → (counts ≡ false) × (is_some transfer ≡ false) × (is_some server ≡ false)
+chooses_nothing ps true transfer server h none = absurd (omega (arith, h.0, none.0))
+chooses_nothing ps false (Some x) server h none = (let bad : [] ≡ x ∷ [] = sym none.1 ∙ h.1 in cc)
+chooses_nothing ps false None (Some x) h none = (let bad : [] ≡ x ∷ [] = sym none.2 ∙ h.2 in cc)
+chooses_nothing ps false None None h none = (refl, refl, refl)
+
+pub chooses : (ps : List Part) (counts : Bool) (transfer server : Option ℕ) → counts ≡ false → is_some transfer ≡ false → is_some server ≡ false → Choose ps counts transfer server → Choose ps false None None
+chooses ps true transfer server a b c h = cc
+chooses ps false (Some x) server a b c h = cc
+chooses ps false None (Some x) a b c h = cc
+chooses ps false None None a b c h = h
+
+-- ---- what is said once at most
+
 pub json_twice : (ps qs : List Part) → jsons ps ≡ 1 → IsOnce (ps ++ Json ∷ qs) → ⊥
 json_twice ps qs one once = omega (arith, jsons-append ps (Json ∷ qs), one, once.0)
 
-point_again : (ps qs : List Part) (x y : Point) → points ps ≡ x ∷ [] → IsOnce (ps ++ At y ∷ qs) → ⊥
-point_again ps qs x y one once =
-    let more = ap length (points-append ps (At y ∷ qs) ∙ ap (λ xs. xs ++ (y ∷ points qs)) one) in
-    omega (arith, more, once.1)
+pub counts_twice : (ps qs : List Part) → countings ps ≡ 1 → IsOnce (ps ++ Counts ∷ qs) → ⊥
+counts_twice ps qs one once = omega (arith, countings-append ps (Counts ∷ qs), one, once.3)
+
+two_of_them : {A : Type 0} (all before after : List A) (said : Option A) (y : A) → all ≡ before ++ (y ∷ after) → before ≡ option_to_list said → is_some said ≡ true → length all ≤ 1 → ⊥
+two_of_them all before after None y are is some one = cc
+two_of_them all before after (Some x) y are is some one =
+    let more = ap length (are ∙ ap (λ xs. xs ++ (y ∷ after)) is) in
+    omega (arith, more, one)
 
 pub point_twice : (ps qs : List Part) (at : Option Point) (y : Point) → is_some at ≡ true → points ps ≡ option_to_list at → IsOnce (ps ++ At y ∷ qs) → ⊥
-point_twice ps qs None y some are once = cc
-point_twice ps qs (Some x) y some are once = point_again ps qs x y are once
-
-rollover_again : (ps qs : List Part) (x y : Rollover) → rollovers ps ≡ x ∷ [] → IsOnce (ps ++ Again y ∷ qs) → ⊥
-rollover_again ps qs x y one once =
-    let more = ap length (rollovers-append ps (Again y ∷ qs) ∙ ap (λ xs. xs ++ (y ∷ rollovers qs)) one) in
-    omega (arith, more, once.2)
+point_twice ps qs at y some are once = two_of_them (points (ps ++ At y ∷ qs)) (points ps) (points qs) at y (points-append ps (At y ∷ qs)) are some once.1
 
 pub rollover_twice : (ps qs : List Part) (over : Option Rollover) (y : Rollover) → is_some over ≡ true → rollovers ps ≡ option_to_list over → IsOnce (ps ++ Again y ∷ qs) → ⊥
-rollover_twice ps qs None y some are once = cc
-rollover_twice ps qs (Some x) y some are once = rollover_again ps qs x y are once
+rollover_twice ps qs over y some are once = two_of_them (rollovers (ps ++ Again y ∷ qs)) (rollovers ps) (rollovers qs) over y (rollovers-append ps (Again y ∷ qs)) are some once.2
+
+pub transfer_twice : (ps qs : List Part) (said : Option ℕ) (y : ℕ) → is_some said ≡ true → transfers ps ≡ option_to_list said → IsOnce (ps ++ Transfer y ∷ qs) → ⊥
+transfer_twice ps qs said y some are once = two_of_them (transfers (ps ++ Transfer y ∷ qs)) (transfers ps) (transfers qs) said y (transfers-append ps (Transfer y ∷ qs)) are some once.4
+
+pub server_transfer_twice : (ps qs : List Part) (said : Option ℕ) (y : ℕ) → is_some said ≡ true → server_transfers ps ≡ option_to_list said → IsOnce (ps ++ ServerTransfer y ∷ qs) → ⊥
+server_transfer_twice ps qs said y some are once =
+    two_of_them (server_transfers (ps ++ ServerTransfer y ∷ qs)) (server_transfers ps) (server_transfers qs) said y (server_transfers-append ps (ServerTransfer y ∷ qs)) are some once.5
 
 pub have_word : (ps : List Part) (ports : List ℕ) (json : Bool) (at : Option Point) (over : Option Rollover) (items : List (Bor Word)) (word : Bor Word) → Have ps ports json at over (map (λ w. w.now) items)
     → Have (ps ++ Plain word.now ∷ []) ports json at over (map (λ w. w.now) (items ++ word ∷ []))

@@ -1,19 +1,45 @@
 -- How the words begin.
-use Rattle.std.proofs.Common.{◌≡◌, ◌≢◌, inl, inr, ℕ, [], ◌∷◌, ◌++◌, length, true, false, Option, Some, codes, ◌==◌, refl, sym, ap, ◌∙◌, append-nil, get_or, subst, arith}
-use Rattle.tftp_packet.specs.{Rollover}
-use Rattle.tftp_words.specs.{Point, Word, Part, Service, Json, At, Again, Plain, IsOption, IsPlain, IsPort, Gives, Begins, point_word, rollover_word}
+use Rattle.std.proofs.Common.{◌≡◌, ◌≢◌, ◌⊎◌, inl, inr, ℕ, ◌+◌, [], ◌∷◌, ◌++◌, Bool, true, false, ◌||◌, ◌==◌, Option, Some, codes, refl, sym, ap, ◌∙◌, append-nil, get_or, subst}
 use Rattle.std.proofs.lemmas.List.{append_cancel_left}
+use Rattle.clap.proofs.CutLemmas.{Lacks, list_any-Lacks, list_any-at}
+use Rattle.tftp_words.specs.{Word, Part, Service, Json, At, Again, Counts, Transfer, ServerTransfer, Plain, IsName, IsOption, IsPlain, IsValue, Gives, Begins, option_name}
 
-pub no_name : (name word : Word) (next : Option Word) → ((rest : Word) → word ≡ name ++ rest → ⊥) → (value : Word) (count : ℕ) → Gives name word next value count → ⊥
-no_name name word next not value count (inl (one, is)) = not _ is
-no_name name word next not value count (inr (two, is, second)) = not [] (is ∙ sym (append-nil name))
+-- ---- the name of an option
 
-pub no_value : (name word after : Word) (next : Option Word) → word ≡ name ++ after → (length after == 0) ≡ false → ((rest : Word) → after ≡ 61 ∷ rest → ⊥) → (value : Word) (count : ℕ) → Gives name word next value count → ⊥
-no_value name word after next are some not value count (inl (one, is)) = not value (append_cancel_left name after (61 ∷ value) (sym are ∙ is))
-no_value name word after next are some not value count (inr (two, is, second)) =
-    let none : after ≡ [] = append_cancel_left name after [] (sym are ∙ is ∙ sym (append-nil name)) in
-    let bad : true ≡ false = sym (ap (λ w. length w == 0) none) ∙ some in
-    cc
+or_false : (a b : Bool) → (a || b) ≡ false → (a ≡ false) × (b ≡ false)
+or_false true b e = cc
+or_false false b e = (refl, e)
+
+-- a name ends before the first =
+same_name : (n m v w : Word) → IsName n → IsName m → n ++ (61 ∷ v) ≡ m ++ (61 ∷ w) → n ≡ m
+same_name [] [] v w one other e = refl
+same_name [] (y ∷ m) v w one other e =
+    let is : y ≡ 61 = cc in
+    let bad : true ≡ false = subst (λ z. (z == 61) ≡ false) is (or_false _ _ other).0 in cc
+same_name (x ∷ n) [] v w one other e =
+    let is : x ≡ 61 = cc in
+    let bad : true ≡ false = subst (λ z. (z == 61) ≡ false) is (or_false _ _ one).0 in cc
+same_name (x ∷ n) (y ∷ m) v w one other e =
+    let head : x ≡ y = cc in
+    let tail : n ++ (61 ∷ v) ≡ m ++ (61 ∷ w) = cc in
+    ap (λ z. z ∷ n) head ∙ ap (λ l. y ∷ l) (same_name n m v w (or_false _ _ one).1 (or_false _ _ other).1 tail)
+
+no_equals : (n v m : Word) → n ++ (61 ∷ v) ≡ m → IsName m → ⊥
+no_equals n v m e is = (let bad : true ≡ false = sym (list_any-at 61 n v) ∙ subst IsName (sym e) is in cc)
+
+-- the word is this name, or the name stands before its first =
+abbrev pub IsStem : Word → Word → Type 0
+IsStem word name = IsName name × ((word ≡ name) ⊎ ((value : Word) × (word ≡ name ++ (61 ∷ value))))
+
+pub one_stem : (word n m : Word) → IsStem word n → IsStem word m → n ≡ m
+one_stem word n m (one, inl is) (other, inl also) = sym is ∙ also
+one_stem word n m (one, inl is) (other, inr (w, also)) = absurd (no_equals m w n (sym also ∙ is) one)
+one_stem word n m (one, inr (v, is)) (other, inl also) = absurd (no_equals n v m (sym is ∙ also) other)
+one_stem word n m (one, inr (v, is)) (other, inr (w, also)) = same_name n m v w one other (sym is ∙ also)
+
+pub gives_stem : (name word : Word) (next : Option Word) (v : Word) (k : ℕ) → IsName name → Gives name word next v k → IsStem word name
+gives_stem name word next v k is (inl (one, all)) = (is, inr (v, all))
+gives_stem name word next v k is (inr (two, all, second)) = (is, inl all)
 
 -- an option has one value
 pub one_value : (name word : Word) (next : Option Word) (v w : Word) (k l : ℕ) → Gives name word next v k → Gives name word next w l → v ≡ w
@@ -24,60 +50,95 @@ one_value name word next v w k l (inr (one, is, first)) (inl (other, also)) =
     let bad : 61 ∷ w ≡ [] = append_cancel_left name (61 ∷ w) [] (sym also ∙ is ∙ sym (append-nil name)) in cc
 one_value name word next v w k l (inr (one, is, first)) (inr (other, also, second)) = cc
 
+-- what tells the names of options apart: a letter of each half
+letters : Word → ℕ
+letters w = get_or w 2 0 + get_or w 6 0
+
+abbrev pub kind : Part → ℕ
+kind (Service port) = 220
+kind Json = 106
+kind (At point) = 101
+kind (Again rollover) = 225
+kind Counts = 215
+kind (Transfer number) = 231
+kind (ServerTransfer number) = 216
+kind (Plain word) = 0
+
+kind_by_name : (p : Part) → letters (option_name p) ≡ kind p
+unfolding letters
+kind_by_name (Service port) = refl
+kind_by_name _ = refl
+
+pub same_kind : (p q : Part) → option_name p ≡ option_name q → kind p ≡ kind q
+same_kind p q e = sym (kind_by_name p) ∙ ap letters e ∙ kind_by_name q
+
+pub no_kind : (p : Part) → codes "--" ≡ option_name p → kind p ≡ 0
+unfolding letters
+no_kind p e = sym (kind_by_name p) ∙ ap letters (sym e)
+
+-- ---- what the words begin with
+
 -- an option is given by one word or by two
-pub given_by_one : (name value word : Word) (next : Option Word) (count : ℕ) → count ≡ 1 → IsOption name value (word ∷ []) → Gives name word next value count
-given_by_one name value word next count one (inl is) = cc
-given_by_one name value word next count one (inr is) = inl (one, cc)
+given : (name word : Word) (next : Option Word) (k : ℕ) (W : Word → Type 0) → ((k ≡ 1) × ((value : Word) × W value × IsOption name value (word ∷ [])))
+    ⊎ ((k ≡ 2) × (second : Word) × (next ≡ Some second) × ((value : Word) × W value × IsOption name value (word ∷ second ∷ [])))
+    → (value : Word) × W value × Gives name word next value k
+given name word next k W (inl (one, (value, is, inl two))) = cc
+given name word next k W (inl (one, (value, is, inr whole))) = (value, is, inl (one, ap (λ ws. get_or ws 0 []) whole))
+given name word next k W (inr (two, second, at, (value, is, inl whole))) =
+    (value, is, inr (two, ap (λ ws. get_or ws 0 []) whole, at ∙ ap (λ ws. Some (get_or ws 1 [])) whole))
+given name word next k W (inr (two, second, at, (value, is, inr one))) = cc
 
-pub given_by_two : (name value word second : Word) (next : Option Word) (count : ℕ) → count ≡ 2 → next ≡ Some second → IsOption name value (word ∷ second ∷ []) → Gives name word next value count
-given_by_two name value word second next count two at (inl is) = inr (two, cc, cc)
-given_by_two name value word second next count two at (inr is) = cc
+-- a word that is no option, an option without a value, or one with its value
+abbrev pub Begun : Word → Option Word → Part → ℕ → Type 0
+Begun word next (Plain w) k = (k ≡ 1) × (w ≡ word) × IsPlain w
+Begun word next Json k = (k ≡ 1) × (word ≡ codes "--json")
+Begun word next Counts k = (k ≡ 1) × (word ≡ codes "--counts")
+Begun word next p k = (value : Word) × IsValue value p × Gives (option_name p) word next value k
 
-pub service_given : (word : Word) (next : Option Word) (port count : ℕ) → Begins word next (Service port) count → (text : Word) × IsPort text port × Gives (codes "--service") word next text count
-service_given word next port count (inl (one, (text, is, option))) = (text, is, given_by_one (codes "--service") text word next count one option)
-service_given word next port count (inr (two, second, at, (text, is, option))) = (text, is, given_by_two (codes "--service") text word second next count two at option)
+pub begun : (word : Word) (next : Option Word) (p : Part) (k : ℕ) → Begins word next p k → Begun word next p k
+begun word next (Plain w) k (inl (one, (plain, is))) = (one, sym (ap (λ ws. get_or ws 0 []) is), plain)
+begun word next (Plain w) k (inr (two, second, at, (plain, is))) = cc
+begun word next Json k (inl (one, is)) = (one, ap (λ ws. get_or ws 0 []) is)
+begun word next Json k (inr (two, second, at, is)) = cc
+begun word next Counts k (inl (one, is)) = (one, ap (λ ws. get_or ws 0 []) is)
+begun word next Counts k (inr (two, second, at, is)) = cc
+begun word next p k begins = given (option_name p) word next k (λ value. IsValue value p) begins
 
-pub point_given : (word : Word) (next : Option Word) (point : Point) (count : ℕ) → Begins word next (At point) count → Gives (codes "--end") word next (point_word point) count
-point_given word next point count (inl (one, option)) = given_by_one (codes "--end") (point_word point) word next count one option
-point_given word next point count (inr (two, second, at, option)) = given_by_two (codes "--end") (point_word point) word second next count two at option
+-- an option with its value is this part
+pub option_begins : (name value word : Word) (next : Option Word) (p : Part) (k : ℕ) → name ≡ option_name p → IsValue value p → Gives name word next value k → Begins word next p k
+option_begins name value word next Json k e is gives = absurd is
+option_begins name value word next Counts k e is gives = absurd is
+option_begins name value word next (Plain w) k e is gives = absurd is
+option_begins name value word next p k e is (inl (one, whole)) = inl (one, (value, is, inr (ap (λ w. w ∷ []) (whole ∙ ap (λ n. n ++ (61 ∷ value)) e))))
+option_begins name value word next p k e is (inr (two, whole, at)) = inr (two, value, at, (value, is, inl (ap (λ w. w ∷ value ∷ []) (whole ∙ e))))
 
-pub rollover_given : (word : Word) (next : Option Word) (rollover : Rollover) (count : ℕ) → Begins word next (Again rollover) count → Gives (codes "--rollover") word next (rollover_word rollover) count
-rollover_given word next rollover count (inl (one, option)) = given_by_one (codes "--rollover") (rollover_word rollover) word next count one option
-rollover_given word next rollover count (inr (two, second, at, option)) = given_by_two (codes "--rollover") (rollover_word rollover) word second next count two at option
+-- ---- the words of no part
 
-pub third_of : (name word : Word) (next : Option Word) (v : Word) (k x : ℕ) → ((rest : Word) → get_or (name ++ rest) 2 0 ≡ x) → Gives name word next v k → get_or word 2 0 ≡ x
-third_of name word next v k x at (inl (one, is)) = ap (λ w. get_or w 2 0) is ∙ at (61 ∷ v)
-third_of name word next v k x at (inr (two, is, second)) = ap (λ w. get_or w 2 0) (is ∙ sym (append-nil name)) ∙ at []
+-- where no option has this name with this value, the words begin with no part
+pub no_part : (word : Word) (next : Option Word) (name value : Word) (count : ℕ) → (IsPlain word → ⊥) → word ≢ codes "--json" → word ≢ codes "--counts" → IsName name → Gives name word next value count
+    → ((p : Part) → name ≡ option_name p → IsValue value p → ⊥) → (p : Part) (k : ℕ) → Begins word next p k → ⊥
+no_part word next name value count plain json counting is gives never p k begins = go p (begun word next p k begins)
+  where
+    go : (q : Part) → Begun word next q k → ⊥
+    go (Plain w) b = plain (subst IsPlain b.1 b.2)
+    go Json b = json b.1
+    go Counts b = counting b.1
+    go q b =
+        let same = one_stem word name (option_name q) (gives_stem name word next value count is gives) (gives_stem (option_name q) word next b.0 k refl b.2) in
+        let its = one_value (option_name q) word next value b.0 count k (subst (λ n. Gives n word next value count) same gives) b.2 in
+        never q same (subst (λ v. IsValue v q) (sym its) b.1)
 
--- no words begin with two options
-service_or_end : (word : Word) (next : Option Word) (v w : Word) (k l : ℕ) → Gives (codes "--service") word next v k → Gives (codes "--end") word next w l → ⊥
-service_or_end word next v w k l one other =
-    let bad : 115 ≡ 101 = sym (third_of (codes "--service") word next v k 115 (λ rest. refl) one) ∙ third_of (codes "--end") word next w l 101 (λ rest. refl) other in
-    absurd (omega (arith, bad))
+-- where no option stands at all, neither
+pub no_option : (word : Word) (next : Option Word) → (IsPlain word → ⊥) → word ≢ codes "--json" → word ≢ codes "--counts" → ((name value : Word) (k : ℕ) → Gives name word next value k → ⊥) → (p : Part) (k : ℕ) → Begins word next p k → ⊥
+no_option word next plain json counting never p k begins = go p (begun word next p k begins)
+  where
+    go : (q : Part) → Begun word next q k → ⊥
+    go (Plain w) b = plain (subst IsPlain b.1 b.2)
+    go Json b = json b.1
+    go Counts b = counting b.1
+    go q b = never (option_name q) b.0 k b.2
 
-service_or_rollover : (word : Word) (next : Option Word) (v w : Word) (k l : ℕ) → Gives (codes "--service") word next v k → Gives (codes "--rollover") word next w l → ⊥
-service_or_rollover word next v w k l one other =
-    let bad : 115 ≡ 114 = sym (third_of (codes "--service") word next v k 115 (λ rest. refl) one) ∙ third_of (codes "--rollover") word next w l 114 (λ rest. refl) other in
-    absurd (omega (arith, bad))
-
-end_or_rollover : (word : Word) (next : Option Word) (v w : Word) (k l : ℕ) → Gives (codes "--end") word next v k → Gives (codes "--rollover") word next w l → ⊥
-end_or_rollover word next v w k l one other =
-    let bad : 101 ≡ 114 = sym (third_of (codes "--end") word next v k 101 (λ rest. refl) one) ∙ third_of (codes "--rollover") word next w l 114 (λ rest. refl) other in
-    absurd (omega (arith, bad))
-
-not_json : (word : Word) (next : Option Word) (count : ℕ) → word ≢ codes "--json" → Begins word next Json count → ⊥
-not_json word next count not (inl (one, is)) = not (ap (λ ws. get_or ws 0 []) is)
-not_json word next count not (inr (two, second, at, is)) = cc
-
-not_plain : (word w : Word) (next : Option Word) (count : ℕ) → (IsPlain word → ⊥) → Begins word next (Plain w) count → ⊥
-not_plain word w next count not (inl (one, (plain, is))) = not (subst IsPlain (sym (ap (λ ws. get_or ws 0 []) is)) plain)
-not_plain word w next count not (inr (two, second, at, (plain, is))) = cc
-
--- the words of an option without its value are no part
-pub no_part : (word : Word) (next : Option Word) → (IsPlain word → ⊥) → word ≢ codes "--json" → ((v : Word) (k : ℕ) → Gives (codes "--service") word next v k → ⊥) → ((v : Word) (k : ℕ) → Gives (codes "--end") word next v k → ⊥)
-    → ((v : Word) (k : ℕ) → Gives (codes "--rollover") word next v k → ⊥) → (p : Part) (count : ℕ) → Begins word next p count → ⊥
-no_part word next plain json service end over (Service port) count begins = let given = service_given word next port count begins in service given.0 count given.2
-no_part word next plain json service end over Json count begins = not_json word next count json begins
-no_part word next plain json service end over (At at) count begins = end (point_word at) count (point_given word next at count begins)
-no_part word next plain json service end over (Again rollover) count begins = over (rollover_word rollover) count (rollover_given word next rollover count begins)
-no_part word next plain json service end over (Plain w) count begins = not_plain word w next count plain begins
+-- a word in which no = stands gives no option without a word behind it
+pub no_equals_no_next : (word : Word) (next : Option Word) → Lacks 61 word → ((second : Word) → next ≡ Some second → ⊥) → (name value : Word) (k : ℕ) → Gives name word next value k → ⊥
+no_equals_no_next word next lacks none name value k (inl (one, is)) = no_equals name value word (sym is) (list_any-Lacks 61 word lacks)
+no_equals_no_next word next lacks none name value k (inr (two, is, second)) = none value second

@@ -3,9 +3,9 @@ use Rattle.std.proofs.Common.{◌≡◌, ◌≢◌, ℕ, ◌+◌, ◌<◌, List,
 use Rattle.std.proofs.lemmas.List.{drop-map, map-append}
 use Rattle.std.proofs.Math.Seq.{take-suc}
 use Rattle.tftp_packet.specs.{Rollover}
-use Rattle.tftp_words.specs.{Point, Given, ReadFault, Word, Part, Plain, Begins, Say, Have, Holds, IsOnce}
+use Rattle.tftp_words.specs.{Point, Given, ReadFault, Word, Part, Plain, Begins, Say, Have, Choose, Holds, IsOnce}
 use Rattle.tftp_words.specs.declared.given.ReadFault.TheVariants as fault
-use Rattle.tftp_words.proofs.Having.{have_word}
+use Rattle.tftp_words.proofs.Having.{have_word, choose_beside}
 use Rattle.tftp_words.proofs.Saying.{say_on, say_step, say_nothing, say_end, said_end, say_plain, said_plain}
 
 -- the texts of the words that are left
@@ -64,19 +64,23 @@ read_twice words left given w next p k (done, holds, on, back) zeroth second not
     let step = say_step left w next p k found.0 begins zeroth second not found.2 in
     twice done step.0 holds (subst IsOnce (found.1 ∙ ap (λ qs. done ++ qs) step.1) once)
 
-pub memory_else : (f : ReadFault) → (f ≡ fault.Unknown → ⊥) → f ≢ fault.NoEnd → f ≡ fault.Memory
-memory_else fault.Unknown not other = absurd (not refl)
-memory_else fault.NoEnd not other = absurd (other refl)
-memory_else fault.Memory not other = refl
+pub memory_else : (f : ReadFault) → (f ≡ fault.Unknown → ⊥) → f ≢ fault.NoEnd → f ≢ fault.TwoInputs → f ≡ fault.Memory
+memory_else fault.Unknown not other alone = absurd (not refl)
+memory_else fault.NoEnd not other alone = absurd (other refl)
+memory_else fault.TwoInputs not other alone = absurd (alone refl)
+memory_else fault.Memory not other alone = refl
 
 -- one more plain word
-pub more_word : {A : Type 0} (f : A → Word) (xs : List A) (i : ℕ) (x : A) (ps : List Part) (ports : List ℕ) (json : Bool) (at : Option Point) (over : Option Rollover) (items : List (Bor Word)) (word : Bor Word) → i < length xs → x ≡ get_or xs i x → word.now ≡ f x
-    → Have (ps ++ map Plain (map f (take i xs))) ports json at over (map (λ w. w.now) items) → Have (ps ++ map Plain (map f (take (i + 1) xs))) ports json at over (map (λ w. w.now) (items ++ word ∷ []))
-more_word f xs i x ps ports json at over items word within is same h =
+pub more_word : {A : Type 0} (f : A → Word) (xs : List A) (i : ℕ) (x : A) (ps : List Part) (ports : List ℕ) (json : Bool) (at : Option Point) (over : Option Rollover) (items : List (Bor Word)) (counts : Bool) (transfer server : Option ℕ)
+    (word : Bor Word) → i < length xs → x ≡ get_or xs i x → word.now ≡ f x
+    → Have (ps ++ map Plain (map f (take i xs))) ports json at over (map (λ w. w.now) items) × Choose (ps ++ map Plain (map f (take i xs))) counts transfer server
+    → Have (ps ++ map Plain (map f (take (i + 1) xs))) ports json at over (map (λ w. w.now) (items ++ word ∷ [])) × Choose (ps ++ map Plain (map f (take (i + 1) xs))) counts transfer server
+more_word f xs i x ps ports json at over items counts transfer server word within is same h =
     let more : ps ++ map Plain (map f (take (i + 1) xs)) ≡ (ps ++ map Plain (map f (take i xs))) ++ Plain word.now ∷ [] =
     ap (λ l. ps ++ map Plain (map f l)) (ap (λ n. take n xs) (add-one i) ∙ take-suc xs i x within ∙ ap (λ y. take i xs ++ y ∷ []) (sym is))
     ∙ ap (λ l. ps ++ map Plain l) (map-append f (take i xs) (x ∷ []))
     ∙ ap (λ l. ps ++ l) (map-append Plain (map f (take i xs)) (f x ∷ []))
     ∙ sym (append_assoc ps (map Plain (map f (take i xs))) (Plain (f x) ∷ []))
     ∙ ap (λ y. (ps ++ map Plain (map f (take i xs))) ++ Plain y ∷ []) (sym same) in
-    subst (λ qs. Have qs ports json at over (map (λ w. w.now) (items ++ word ∷ []))) (sym more) (have_word (ps ++ map Plain (map f (take i xs))) ports json at over items word h)
+    subst (λ qs. Have qs ports json at over (map (λ w. w.now) (items ++ word ∷ [])) × Choose qs counts transfer server) (sym more)
+    (have_word (ps ++ map Plain (map f (take i xs))) ports json at over items word h.0, choose_beside (ps ++ map Plain (map f (take i xs))) (Plain word.now) counts transfer server refl refl refl h.1)

@@ -2,9 +2,9 @@
 use Rattle.std.proofs.Common.{◌≡◌, ◌≢◌, ◌⊎◌, inl, inr, ℕ, ◌≤◌, List, [], ◌∷◌, ◌++◌, length, drop, map, Option, Some, None, codes, slice_get, refl, sym, ap, ◌∙◌, get_or, subst, arith, append-nil}
 use Rattle.std.proofs.lemmas.List.{append_cancel_left}
 use Rattle.tftp_packet.specs.{Rollover, Zero, One}
-use Rattle.tftp_words.specs.{Point, Word, Part, Service, Json, At, Again, Plain, IsOption, IsPlain, IsPort, IsNumber, Gives, Begins, Says, Say, Done, First, Rest, point_word, rollover_word}
+use Rattle.tftp_words.specs.{Point, Word, Part, Service, Json, At, Again, Counts, Transfer, ServerTransfer, Plain, IsOption, IsPlain, IsNumber, IsValue, Gives, Begins, Says, Say, Done, First, Rest, option_name, point_word, rollover_word}
 use Rattle.tftp_words.specs.declared.point.Point.TheVariants as point
-use Rattle.tftp_words.proofs.PartLemmas.{service_given, point_given, rollover_given, one_value, third_of}
+use Rattle.tftp_words.proofs.PartLemmas.{IsStem, one_stem, gives_stem, one_value, Begun, begun, kind, same_kind, no_kind}
 
 -- ---- the words begin with one part
 
@@ -20,55 +20,27 @@ dashes_not_plain : (rest : Word) → IsPlain (45 ∷ 45 ∷ rest) → ⊥
 dashes_not_plain rest (inl not) = not (45 ∷ rest) refl
 dashes_not_plain rest (inr is) = cc
 
--- what the third byte of an option is
-abbrev third : Part → ℕ
-third (Service port) = 115
-third Json = 106
-third (At point) = 101
-third (Again rollover) = 114
-third (Plain word) = 0
-
 given_dashes : (name rest word : Word) (next : Option Word) (v : Word) (k : ℕ) → name ≡ 45 ∷ 45 ∷ rest → Gives name word next v k → IsPlain word → ⊥
 given_dashes name rest word next v k dashes (inl (one, is)) plain = dashes_not_plain (rest ++ (61 ∷ v)) (subst IsPlain (is ∙ ap (λ n. n ++ (61 ∷ v)) dashes) plain)
 given_dashes name rest word next v k dashes (inr (two, is, second)) plain = dashes_not_plain rest (subst IsPlain (is ∙ dashes) plain)
 
-json_is : (word : Word) (next : Option Word) (k : ℕ) → Begins word next Json k → (k ≡ 1) × (word ≡ codes "--json")
-json_is word next k (inl (one, is)) = (one, ap (λ ws. get_or ws 0 []) is)
-json_is word next k (inr (two, second, at, is)) = cc
+-- a part's word is plain, or it has the name of its option before the first = and is not plain
+abbrev HasStem : Word → Part → Type 0
+HasStem word (Plain w) = IsPlain word
+HasStem word p = IsStem word (option_name p) × (IsPlain word → ⊥)
 
-plain_is : (word w : Word) (next : Option Word) (k : ℕ) → Begins word next (Plain w) k → (k ≡ 1) × (w ≡ word) × IsPlain w
-plain_is word w next k (inl (one, (plain, is))) = (one, sym (ap (λ ws. get_or ws 0 []) is), plain)
-plain_is word w next k (inr (two, second, at, (plain, is))) = cc
+stem : (word : Word) (next : Option Word) (p : Part) (k : ℕ) → Begun word next p k → HasStem word p
+stem word next (Plain w) k b = subst IsPlain b.1 b.2
+stem word next Json k b = ((refl, inl b.1), λ plain. dashes_not_plain (codes "json") (subst IsPlain b.1 plain))
+stem word next Counts k b = ((refl, inl b.1), λ plain. dashes_not_plain (codes "counts") (subst IsPlain b.1 plain))
+stem word next p k b =
+    (gives_stem (option_name p) word next b.0 k refl b.2, given_dashes (option_name p) (drop 2 (option_name p)) word next b.0 k refl b.2)
 
--- an option's word is not plain, and has its third byte
-abbrev IsOptionWord : Part → Word → Type 0
-IsOptionWord p word = (get_or word 2 0 ≡ third p) × (IsPlain word → ⊥)
-
-service_word : (word : Word) (next : Option Word) (port k : ℕ) → Begins word next (Service port) k → IsOptionWord (Service port) word
-service_word word next port k begins =
-    let given = service_given word next port k begins in
-    (third_of (codes "--service") word next given.0 k 115 (λ rest. refl) given.2, given_dashes (codes "--service") (codes "service") word next given.0 k refl given.2)
-
-point_option : (word : Word) (next : Option Word) (at : Point) (k : ℕ) → Begins word next (At at) k → IsOptionWord (At at) word
-point_option word next at k begins =
-    let given = point_given word next at k begins in
-    (third_of (codes "--end") word next (point_word at) k 101 (λ rest. refl) given, given_dashes (codes "--end") (codes "end") word next (point_word at) k refl given)
-
-rollover_option : (word : Word) (next : Option Word) (rollover : Rollover) (k : ℕ) → Begins word next (Again rollover) k → IsOptionWord (Again rollover) word
-rollover_option word next rollover k begins =
-    let given = rollover_given word next rollover k begins in
-    (third_of (codes "--rollover") word next (rollover_word rollover) k 114 (λ rest. refl) given, given_dashes (codes "--rollover") (codes "rollover") word next (rollover_word rollover) k refl given)
-
-json_word : (word : Word) (next : Option Word) (k : ℕ) → Begins word next Json k → IsOptionWord Json word
-json_word word next k begins =
-    let is = (json_is word next k begins).1 in
-    (ap (λ w. get_or w 2 0) is, λ plain. dashes_not_plain (codes "json") (subst IsPlain is plain))
-
-differ : (p q : Part) (word : Word) (x y : ℕ) → third p ≡ x → third q ≡ y → x ≢ y → IsOptionWord p word → IsOptionWord q word → ⊥
-differ p q word x y px qy not one other = not (sym px ∙ sym one.0 ∙ other.0 ∙ qy)
-
-not_both : (p : Part) (word w : Word) (next : Option Word) (k : ℕ) → IsOptionWord p word → Begins word next (Plain w) k → ⊥
-not_both p word w next k option begins = let plain = plain_is word w next k begins in option.1 (subst IsPlain plain.1 plain.2)
+one_kind : (word : Word) (p q : Part) → HasStem word p → HasStem word q → kind p ≡ kind q
+one_kind word (Plain a) (Plain b) one other = refl
+one_kind word (Plain a) q one other = absurd (other.1 one)
+one_kind word p (Plain b) one other = absurd (one.1 other)
+one_kind word p q one other = same_kind p q (one_stem word (option_name p) (option_name q) one.0 other.0)
 
 same_point : (a b : Point) → point_word a ≡ point_word b → a ≡ b
 same_point point.Client point.Server e = (let bad : 99 ≡ 115 = ap (λ w. get_or w 0 0) e in absurd (omega (arith, bad)))
@@ -84,50 +56,49 @@ same_rollover Zero One e = (let bad : 48 ≡ 49 = ap (λ w. get_or w 0 0) e in a
 same_rollover One Zero e = (let bad : 49 ≡ 48 = ap (λ w. get_or w 0 0) e in absurd (omega (arith, bad)))
 same_rollover _ _ e = refl
 
-same_port : (s t : Word) (p q : ℕ) → s ≡ t → IsPort s p → IsPort t q → p ≡ q
-same_port s t p q e one other = one.0.1 ∙ sym (subst (λ w. IsNumber w q) (sym e) other.0).1
+same_number : (text : Word) (m n : ℕ) → IsNumber text m → IsNumber text n → m ≡ n
+same_number text m n one other = one.1 ∙ sym other.1
+
+-- a value is that of one part with its name
+same_value : (p q : Part) (value : Word) → kind p ≡ kind q → IsValue value p → IsValue value q → p ≡ q
+same_value (Service a) (Service b) value e one other = ap Service (same_number value a b one.0 other.0)
+same_value (At a) (At b) value e one other = ap At (same_point a b (sym one ∙ other))
+same_value (Again a) (Again b) value e one other = ap Again (same_rollover a b (sym one ∙ other))
+same_value (Transfer a) (Transfer b) value e one other = ap Transfer (same_number value a b one.0 other.0)
+same_value (ServerTransfer a) (ServerTransfer b) value e one other = ap ServerTransfer (same_number value a b one.0 other.0)
+same_value Json q value e one other = absurd one
+same_value Counts q value e one other = absurd one
+same_value (Plain w) q value e one other = absurd one
+same_value p q value e one other = absurd (omega (arith, e))
 
 abbrev Same : Part → Part → ℕ → ℕ → Type 0
 Same p q k l = (p ≡ q) × (k ≡ l)
 
+abbrev Valued : Word → Word → Option Word → Part → ℕ → Type 0
+Valued name word next p k = (value : Word) × IsValue value p × Gives name word next value k
+
+same_option : (name word : Word) (next : Option Word) (p q : Part) (k l : ℕ) → kind p ≡ kind q → Valued name word next p k → Valued name word next q l → Same p q k l
+same_option name word next p q k l e (v, one, gives) (w, other, also) = (
+  same_value p q v e one (subst (λ u. IsValue u q) (sym (one_value name word next v w k l gives also)) other),
+  one_count name word next v w k l gives also,
+)
+
+same_part : (word : Word) (next : Option Word) (p q : Part) (k l : ℕ) → kind p ≡ kind q → Begun word next p k → Begun word next q l → Same p q k l
+same_part word next (Plain a) (Plain b) k l e one other = (ap Plain (one.1 ∙ sym other.1), one.0 ∙ sym other.0)
+same_part word next Json Json k l e one other = (refl, one.0 ∙ sym other.0)
+same_part word next Counts Counts k l e one other = (refl, one.0 ∙ sym other.0)
+same_part word next (Service a) (Service b) k l e one other = same_option (codes "--service") word next (Service a) (Service b) k l e one other
+same_part word next (At a) (At b) k l e one other = same_option (codes "--end") word next (At a) (At b) k l e one other
+same_part word next (Again a) (Again b) k l e one other = same_option (codes "--rollover") word next (Again a) (Again b) k l e one other
+same_part word next (Transfer a) (Transfer b) k l e one other = same_option (codes "--transfer") word next (Transfer a) (Transfer b) k l e one other
+same_part word next (ServerTransfer a) (ServerTransfer b) k l e one other = same_option (codes "--server-transfer") word next (ServerTransfer a) (ServerTransfer b) k l e one other
+same_part word next p q k l e one other = absurd (omega (arith, e))
+
 one_begin : (word : Word) (next : Option Word) (p q : Part) (k l : ℕ) → Begins word next p k → Begins word next q l → Same p q k l
-one_begin word next (Service a) (Service b) k l one other =
-    let x = service_given word next a k one in
-    let y = service_given word next b l other in
-    (ap Service (same_port x.0 y.0 a b (one_value (codes "--service") word next x.0 y.0 k l x.2 y.2) x.1 y.1), one_count (codes "--service") word next x.0 y.0 k l x.2 y.2)
-one_begin word next (Service a) Json k l one other = absurd (differ (Service a) Json word 115 106 refl refl (λ e. omega (arith, e)) (service_word word next a k one) (json_word word next l other))
-one_begin word next (Service a) (At b) k l one other = absurd (differ (Service a) (At b) word 115 101 refl refl (λ e. omega (arith, e)) (service_word word next a k one) (point_option word next b l other))
-one_begin word next (Service a) (Again b) k l one other = absurd (differ (Service a) (Again b) word 115 114 refl refl (λ e. omega (arith, e)) (service_word word next a k one) (rollover_option word next b l other))
-one_begin word next (Service a) (Plain b) k l one other = absurd (not_both (Service a) word b next l (service_word word next a k one) other)
-one_begin word next Json (Service b) k l one other = absurd (differ Json (Service b) word 106 115 refl refl (λ e. omega (arith, e)) (json_word word next k one) (service_word word next b l other))
-one_begin word next Json Json k l one other = (refl, (json_is word next k one).0 ∙ sym (json_is word next l other).0)
-one_begin word next Json (At b) k l one other = absurd (differ Json (At b) word 106 101 refl refl (λ e. omega (arith, e)) (json_word word next k one) (point_option word next b l other))
-one_begin word next Json (Again b) k l one other = absurd (differ Json (Again b) word 106 114 refl refl (λ e. omega (arith, e)) (json_word word next k one) (rollover_option word next b l other))
-one_begin word next Json (Plain b) k l one other = absurd (not_both Json word b next l (json_word word next k one) other)
-one_begin word next (At a) (Service b) k l one other = absurd (differ (At a) (Service b) word 101 115 refl refl (λ e. omega (arith, e)) (point_option word next a k one) (service_word word next b l other))
-one_begin word next (At a) Json k l one other = absurd (differ (At a) Json word 101 106 refl refl (λ e. omega (arith, e)) (point_option word next a k one) (json_word word next l other))
-one_begin word next (At a) (At b) k l one other =
-    let x = point_given word next a k one in
-    let y = point_given word next b l other in
-    (ap At (same_point a b (one_value (codes "--end") word next (point_word a) (point_word b) k l x y)), one_count (codes "--end") word next (point_word a) (point_word b) k l x y)
-one_begin word next (At a) (Again b) k l one other = absurd (differ (At a) (Again b) word 101 114 refl refl (λ e. omega (arith, e)) (point_option word next a k one) (rollover_option word next b l other))
-one_begin word next (At a) (Plain b) k l one other = absurd (not_both (At a) word b next l (point_option word next a k one) other)
-one_begin word next (Again a) (Service b) k l one other = absurd (differ (Again a) (Service b) word 114 115 refl refl (λ e. omega (arith, e)) (rollover_option word next a k one) (service_word word next b l other))
-one_begin word next (Again a) Json k l one other = absurd (differ (Again a) Json word 114 106 refl refl (λ e. omega (arith, e)) (rollover_option word next a k one) (json_word word next l other))
-one_begin word next (Again a) (At b) k l one other = absurd (differ (Again a) (At b) word 114 101 refl refl (λ e. omega (arith, e)) (rollover_option word next a k one) (point_option word next b l other))
-one_begin word next (Again a) (Again b) k l one other =
-    let x = rollover_given word next a k one in
-    let y = rollover_given word next b l other in
-    (ap Again (same_rollover a b (one_value (codes "--rollover") word next (rollover_word a) (rollover_word b) k l x y)), one_count (codes "--rollover") word next (rollover_word a) (rollover_word b) k l x y)
-one_begin word next (Again a) (Plain b) k l one other = absurd (not_both (Again a) word b next l (rollover_option word next a k one) other)
-one_begin word next (Plain a) (Service b) k l one other = absurd (not_both (Service b) word a next k (service_word word next b l other) one)
-one_begin word next (Plain a) Json k l one other = absurd (not_both Json word a next k (json_word word next l other) one)
-one_begin word next (Plain a) (At b) k l one other = absurd (not_both (At b) word a next k (point_option word next b l other) one)
-one_begin word next (Plain a) (Again b) k l one other = absurd (not_both (Again b) word a next k (rollover_option word next b l other) one)
-one_begin word next (Plain a) (Plain b) k l one other =
-    let x = plain_is word a next k one in
-    let y = plain_is word b next l other in
-    (ap Plain (x.1 ∙ sym y.1), x.0 ∙ sym y.0)
+one_begin word next p q k l one other =
+    let x = begun word next p k one in
+    let y = begun word next q l other in
+    same_part word next p q k l (one_kind word p q (stem word next p k x) (stem word next q l y)) x y
 
 -- ---- a part takes one word or two
 
@@ -136,11 +107,10 @@ option_size name value mine (inl two) = inr (name, value, two)
 option_size name value mine (inr one) = inl (name ++ (61 ∷ value), one)
 
 part_size : (p : Part) (mine : List Word) → Says mine p → ((a : Word) × (mine ≡ a ∷ [])) ⊎ ((a b : Word) × (mine ≡ a ∷ b ∷ []))
-part_size (Service port) mine says = option_size (codes "--service") says.0 mine says.2
-part_size Json mine says = inl (codes "--json", says)
-part_size (At point) mine says = option_size (codes "--end") (point_word point) mine says
-part_size (Again rollover) mine says = option_size (codes "--rollover") (rollover_word rollover) mine says
 part_size (Plain word) mine says = inl (word, says.1)
+part_size Json mine says = inl (codes "--json", says)
+part_size Counts mine says = inl (codes "--counts", says)
+part_size p mine says = option_size (option_name p) says.0 mine says.2
 
 says_begins : (ws mine rest : List Word) (w : Word) (next : Option Word) (p : Part) → ws ≡ mine ++ rest → Says mine p → slice_get ws 0 ≡ Some w → slice_get ws 1 ≡ next
     → Begins w next p (length mine) × (drop (length mine) ws ≡ rest)
@@ -236,12 +206,12 @@ dash_words (a ∷ ws) w e is = ap (λ x. x ∷ ws) ((let s : a ≡ w = cc in s) 
 pub say_plain : (ws : List Word) (w : Word) → slice_get ws 0 ≡ Some w → w ≡ codes "--" → Say ws (map Plain (drop 1 ws))
 say_plain ws w e is = subst (λ l. Say l (map Plain (drop 1 ws))) (sym (dash_words ws w e is)) (Rest (drop 1 ws))
 
+dashes_have_no_stem : (p : Part) → HasStem (codes "--") p → ⊥
+dashes_have_no_stem (Plain w) plain = dashes_not_plain [] plain
+dashes_have_no_stem p stems = omega (arith, no_kind p (one_stem (codes "--") (codes "--") (option_name p) (refl, inl refl) stems.0))
+
 dashes_begin_nothing : (p : Part) (k : ℕ) (next : Option Word) → Begins (codes "--") next p k → ⊥
-dashes_begin_nothing (Service port) k next begins = let bad : 0 ≡ 115 = (service_word (codes "--") next port k begins).0 in omega (arith, bad)
-dashes_begin_nothing Json k next begins = let bad : 0 ≡ 106 = (json_word (codes "--") next k begins).0 in omega (arith, bad)
-dashes_begin_nothing (At point) k next begins = let bad : 0 ≡ 101 = (point_option (codes "--") next point k begins).0 in omega (arith, bad)
-dashes_begin_nothing (Again rollover) k next begins = let bad : 0 ≡ 114 = (rollover_option (codes "--") next rollover k begins).0 in omega (arith, bad)
-dashes_begin_nothing (Plain w) k next begins = let plain = plain_is (codes "--") w next k begins in dashes_not_plain [] (subst IsPlain plain.1 plain.2)
+dashes_begin_nothing p k next begins = dashes_have_no_stem p (stem (codes "--") next p k (begun (codes "--") next p k begins))
 
 dashes_say_nothing : (p : Part) (mine rest words : List Word) → codes "--" ∷ words ≡ mine ++ rest → Says mine p → ⊥
 dashes_say_nothing p mine rest words are says =

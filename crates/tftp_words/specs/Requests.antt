@@ -2,12 +2,11 @@
 use Rattle.std.specs.Prelude.{◌≡◌, ◌≢◌, ◌⊎◌, ⊤, ◌≤◌, ℕ, List, [], ◌∷◌, length, map, Bool, false, Option, Some, None, codes}
 use Rattle.tftp_packet.specs.{End, Rollover}
 use Rattle.tftp_words.specs.declared.point.Point.{Point}
-use Rattle.tftp_words.specs.declared.point.Point.TheVariants as point
 use Rattle.tftp_words.specs.declared.request.Request.{Request}
 use Rattle.tftp_words.specs.declared.request.Request.TheVariants as code
 use Rattle.tftp_words.specs.declared.request.Command.{Command}
 use Rattle.tftp_words.specs.declared.request.Command.TheVariants as command
-use Rattle.tftp_words.specs.Parts.{Word, Part, Say, Have, IsTransfer, end_word}
+use Rattle.tftp_words.specs.Parts.{Word, Part, Say, Have, Choose, IsTransfer, end_word}
 
 -- the transfers of a recording; the text of one at an end; the texts of all at an end; the verdicts on those of recordings
 pub data Asked : Type 0 where
@@ -22,13 +21,17 @@ IsJudgedAt None at = ⊤
 IsJudgedAt (Some rollover) (Some at) = ⊤
 IsJudgedAt _ _ = ⊥
 
--- the parts are the arguments of what is asked
-abbrev pub Argues : Asked → List Part → Type 0
-Argues (Listed services json file) ps = Have ps services json None None (file ∷ [])
-Argues (Written number end services file) ps =
+-- the parts have what is asked
+abbrev pub Fits : Asked → List Part → Type 0
+Fits (Listed services json file) ps = Have ps services json None None (file ∷ [])
+Fits (Written number end services file) ps =
     (text : Word) × IsTransfer text number × Have ps services false None None (text ∷ end_word end ∷ file ∷ [])
-Argues (AllWritten end services file) ps = Have ps services false None None (end_word end ∷ file ∷ [])
-Argues (Judged at rollover services json files) ps = (1 ≤ length files) × IsJudgedAt rollover at × Have ps services json at rollover files
+Fits (AllWritten end services file) ps = Have ps services false None None (end_word end ∷ file ∷ [])
+Fits (Judged at rollover services json files) ps = (1 ≤ length files) × IsJudgedAt rollover at × Have ps services json at rollover files
+
+-- the parts are the arguments of what is asked: none of them chooses what `tftp-match` alone can be asked for
+abbrev pub Argues : Asked → List Part → Type 0
+Argues asked ps = Choose ps false None None × Fits asked ps
 
 -- a word that names no command
 abbrev pub IsNoName : Word → Type 0

@@ -1,5 +1,5 @@
-ghost use Rattle.std.specs.Prelude.{◌≡◌, ◌≢◌, ◌++◌, ◌∷◌, [], ◌⊎◌, Err, IfOk, OnOk, IsOkAnd, map, option_map, slice_get};
-ghost use Rattle.tftp_words.specs.Parts.{Holds, IsOnce, Plain, Say};
+ghost use Rattle.std.specs.Prelude.{◌≡◌, ◌≢◌, ◌↔◌, ◌++◌, ◌∷◌, [], ◌⊎◌, Err, IfOk, IsTrue, None, OnOk, IsOkAnd, false, map, option_map, slice_get};
+ghost use Rattle.tftp_words.specs.Parts.{Choose, Holds, IsOnce, Plain, Say};
 ghost use Rattle.tftp_words.specs.Parts.{part as part_said};
 ghost use Rattle.tftp_words.specs.declared.given.ReadFault.TheVariants.{Memory};
 
@@ -20,6 +20,12 @@ pub struct Given<'a> {
     pub end: Option<Point>,
     /// What comes after block 65535, if that is said.
     pub rollover: Option<Rollover>,
+    /// Whether it is wanted how often each packet was sent and taken.
+    pub counts: bool,
+    /// The number of a transfer, if that is said.
+    pub transfer: Option<u64>,
+    /// The number of the transfer at the server, if that is said.
+    pub server_transfer: Option<u64>,
     /// The words that are no options, in their order.
     pub plain: Vec<&'a str>,
 }
@@ -31,6 +37,8 @@ pub enum ReadFault {
     Unknown,
     /// They say what comes after block 65535, and no point at which numbers are judged so.
     NoEnd,
+    /// They name standard input for each of two captures.
+    TwoInputs,
     /// Memory was refused.
     Memory,
 }
@@ -60,15 +68,19 @@ impl<'a> Given<'a> {
             json: false,
             end: None,
             rollover: None,
+            counts: false,
+            transfer: None,
+            server_transfer: None,
             plain: Vec::new(alloc),
         }
     }
 
-    /// Adds a part; JSON, a point and a rollover are said once at most.
+    /// Adds a part; each but a port and a plain word is said once at most.
     fn add(&mut self, part: Part<'a>) -> Result<(), ReadFault>
         ensures ok { (ps : _) → Holds self.old ps → OnOk result (Holds self.new (ps ++ part_said part.entry ∷ [])) }
         ensures once { (ps qs : _) → Holds self.old ps → result ≡ Err ReadFault.Unknown → IsOnce (ps ++ part_said part.entry ∷ qs) → ⊥ }
         ensures known { result ≢ Err ReadFault.NoEnd }
+        ensures alone { result ≢ Err ReadFault.TwoInputs }
     {
         match part {
             Part::Service(port) => self.services.push(port)?,
@@ -78,6 +90,14 @@ impl<'a> Given<'a> {
             Part::End(point) => self.end = Some(point),
             Part::Rollover(_) if self.rollover.is_some() => return Err(ReadFault::Unknown),
             Part::Rollover(rollover) => self.rollover = Some(rollover),
+            Part::Counts if self.counts => return Err(ReadFault::Unknown),
+            Part::Counts => self.counts = true,
+            Part::Transfer(_) if self.transfer.is_some() => return Err(ReadFault::Unknown),
+            Part::Transfer(number) => self.transfer = Some(number),
+            Part::ServerTransfer(_) if self.server_transfer.is_some() => {
+                return Err(ReadFault::Unknown);
+            }
+            Part::ServerTransfer(number) => self.server_transfer = Some(number),
             Part::Plain(word) => self.plain.push(word)?,
         }
         Ok(())
@@ -91,6 +111,13 @@ impl<'a> Given<'a> {
             self.plain.push(word.as_str())?;
         }
         Ok(())
+    }
+
+    /// Whether nothing is said that `tftp-match` alone can be asked for.
+    pub fn chooses_nothing(&self) -> bool
+        ensures { (ps : _) → Holds self.now ps → IsTrue result ↔ Choose ps false None None }
+    {
+        !self.counts && self.transfer.is_none() && self.server_transfer.is_none()
     }
 }
 

@@ -1,4 +1,4 @@
-//! What clap knows of the command line: its help, and what it says of words that ask for nothing.
+//! What clap knows of the command line of `tftp-transfers`: its help, and what it says of words that ask for nothing.
 
 use crate::args;
 use clap::{Arg, ArgAction, Command, value_parser};

@@ -1,6 +1,6 @@
 ghost use Rattle.std.specs.Prelude.{◌≡◌, ◌≢◌, ℕ, List, ◌↔◌, IsTrue, MatchOption, option_map};
 ghost use Rattle.tftp_packet.specs.{Rollover as RolloverKind};
-ghost use Rattle.tftp_words.specs.Parts.{Begins, Gives, IsPlain, IsPort, IsTransfer, end_word, part, point_word, rollover_word};
+ghost use Rattle.tftp_words.specs.Parts.{Begins, Gives, IsName, IsPlain, IsPort, IsTransfer, IsValue, end_word, option_name, part, point_word, rollover_word};
 ghost use Rattle.tftp_words.specs.declared.point.Point.{Point as PointKind};
 
 use crate::point::Point;
@@ -19,6 +19,12 @@ pub enum Part<'a> {
     End(Point),
     /// What comes after block 65535.
     Rollover(Rollover),
+    /// How often each packet was sent and taken is wanted.
+    Counts,
+    /// The number of a transfer.
+    Transfer(u64),
+    /// The number of the transfer at the server.
+    ServerTransfer(u64),
     /// A word that is no option.
     Plain(&'a str),
 }
@@ -86,17 +92,32 @@ fn rollover_of(word: &str) -> Option<Rollover>
     }
 }
 
-/// The value of the option with this name where these words begin with it, and how many of them say it.
-fn value_of<'a>(name: &str, word: &'a str, next: Option<&'a str>) -> Option<(&'a str, usize)>
+/// The name and the value of the option with which these words begin, and how many of them say it.
+fn option_of<'a>(word: &'a str, next: Option<&'a str>) -> Option<(&'a str, &'a str, usize)>
     ensures { MatchOption result
-        ((value : List ℕ) (count : ℕ) → Gives name.now word.entry.now (option_map (λ s. s.now) next.entry) value count → ⊥)
-        (λ found. Gives name.now word.entry.now (option_map (λ s. s.now) next.entry) found.0.now found.1) }
+        ((name value : List ℕ) (count : ℕ) → Gives name word.entry.now (option_map (λ s. s.now) next.entry) value count → ⊥)
+        (λ found. IsName found.0.now × Gives found.0.now word.entry.now (option_map (λ s. s.now) next.entry) found.1.now found.2) }
 {
-    let after = word.strip_prefix(name)?;
-    if after.is_empty() {
-        return Some((next?, 2));
+    match word.split_once('=') {
+        Some((name, value)) => Some((name, value, 1)),
+        None => Some((word, next?, 2)),
     }
-    Some((after.strip_prefix("=")?, 1))
+}
+
+/// The part that an option is, by its name and its value.
+fn part_of<'a>(name: &str, value: &str) -> Option<Part<'a>>
+    ensures { MatchOption result
+        ((p : _) → name.now ≡ option_name p → IsValue value.now p → ⊥)
+        (λ p. (name.now ≡ option_name (part p)) × IsValue value.now (part p)) }
+{
+    match name {
+        "--service" => Some(Part::Service(port_of(value)?)),
+        "--end" => Some(Part::End(point_of(value)?)),
+        "--rollover" => Some(Part::Rollover(rollover_of(value)?)),
+        "--transfer" => Some(Part::Transfer(transfer_of(value)?)),
+        "--server-transfer" => Some(Part::ServerTransfer(transfer_of(value)?)),
+        _ => None,
+    }
 }
 
 /// The part with which these words begin, and how many of them say it.
@@ -111,21 +132,9 @@ pub fn first_part<'a>(word: &'a str, next: Option<&'a str>) -> Option<(Part<'a>,
     if word == "--json" {
         return Some((Part::Json, 1));
     }
-    if let Some((text, count)) = value_of("--service", word, next) {
-        return match port_of(text) {
-            Some(port) => Some((Part::Service(port), count)),
-            None => None,
-        };
+    if word == "--counts" {
+        return Some((Part::Counts, 1));
     }
-    if let Some((text, count)) = value_of("--end", word, next) {
-        return match point_of(text) {
-            Some(point) => Some((Part::End(point), count)),
-            None => None,
-        };
-    }
-    let (text, count) = value_of("--rollover", word, next)?;
-    match rollover_of(text) {
-        Some(rollover) => Some((Part::Rollover(rollover), count)),
-        None => None,
-    }
+    let (name, value, count) = option_of(word, next)?;
+    Some((part_of(name, value)?, count))
 }

@@ -1,6 +1,6 @@
 ghost use Rattle.std.specs.Prelude.{◌≡◌, ◌⊎◌, ◌↔◌, ℕ, Err, IfOk, IsOkAnd, IsTrue, MatchOption, map};
 ghost use Rattle.tftp_words.specs.Parts.{Holds};
-ghost use Rattle.tftp_words.specs.Requests.{Argues, Calls, IsJudgedAt, IsRequest, Names, asked};
+ghost use Rattle.tftp_words.specs.Requests.{Calls, Fits, IsJudgedAt, IsRequest, Names, asked};
 ghost use Rattle.tftp_words.specs.declared.given.ReadFault.TheVariants.{Memory};
 
 use crate::given::{Given, ReadFault, given_of, word_at};
@@ -111,8 +111,8 @@ fn is_judged_at(rollover: Option<Rollover>, at: Option<Point>) -> bool
 
 /// What a command asks for with what its arguments give.
 fn request_by<'a>(command: Command, given: Given<'a>) -> Result<Request<'a>, ReadFault>
-    ensures ok { (ps : _) → Holds given.entry ps → IfOk result (λ r. Calls command (asked r) × Argues (asked r) ps) }
-    ensures only { (ps a : _) → Holds given.entry ps → Calls command a → Argues a ps → IsOkAnd result (λ r. asked r ≡ a) }
+    ensures ok { (ps : _) → Holds given.entry ps → IfOk result (λ r. Calls command (asked r) × Fits (asked r) ps) }
+    ensures only { (ps a : _) → Holds given.entry ps → Calls command a → Fits a ps → IsOkAnd result (λ r. asked r ≡ a) }
     ensures no_end { result ≡ Err ReadFault.NoEnd → IsJudgedAt given.entry.rollover given.entry.end → ⊥ }
 {
     let (services, plain) = (given.services, given.plain);
@@ -166,5 +166,8 @@ pub fn requested<'a, S: AsStr>(alloc: Global, words: &'a [S]) -> Result<Request<
         return Err(ReadFault::Unknown);
     };
     let given = given_of(alloc, words.split_at(count).1)?;
+    if !given.chooses_nothing() {
+        return Err(ReadFault::Unknown);
+    }
     request_by(command, given)
 }

@@ -1,13 +1,16 @@
 ghost use Rattle.std.specs.Prelude.{◌≡◌, ◌⊎◌, Err, IfErr, IfOk, IsOkAnd, map};
+ghost use Rattle.tftp_words.specs.MatchRequests.{IsMatchRequest, match_asked};
 ghost use Rattle.tftp_words.specs.Requests.{IsRequest, asked};
 ghost use Rattle.tftp_words.specs.Told.{IsTold};
 
 use crate::given::ReadFault;
 use crate::help::command_line;
+use crate::match_help::match_command_line;
+use crate::match_request::{MatchRequest, match_requested};
 use crate::request::{Request, requested};
 use clap::error::ErrorKind;
 use clap::{Command, Error};
-use std::alloc::Global;
+use std::alloc::{AllocError, Global};
 use std::convert::AsStr;
 use thiserror::Error as Fault;
 
@@ -29,6 +32,8 @@ const NO_REQUEST: &str = "the words make no request";
 
 const NO_END: &str = "--rollover wants --end client, --end server or --end between";
 
+const TWO_INPUTS: &str = "one capture at most is standard input";
+
 /// The request that the words of a command line make, the first of which is the program's name.
 pub fn request_of<'a, S: AsStr>(alloc: Global, words: &'a [S]) -> Result<Request<'a>, WordsFault>
     ensures ok { IfOk result (λ r. IsRequest (asked r) (map S.text words.entry.now)) }
@@ -37,24 +42,50 @@ pub fn request_of<'a, S: AsStr>(alloc: Global, words: &'a [S]) -> Result<Request
 {
     match requested(alloc, words) {
         Ok(request) => Ok(request),
-        Err(ReadFault::Memory) => Err(WordsFault::Memory),
-        Err(ReadFault::Unknown) => Err(told(alloc, words, NO_REQUEST)),
-        Err(ReadFault::NoEnd) => Err(told(alloc, words, NO_END)),
+        Err(fault) => Err(told(command_line(alloc), words, fault)),
     }
 }
 
-/// What there is to tell of words that make no request, where this is why clap may not know.
-fn told<S: AsStr>(alloc: Global, words: &[S], why: &str) -> WordsFault
-    ensures { IsTold result }
+/// The match that the words of a command line ask for, the first of which is the program's name. At most one capture is
+/// standard input.
+pub fn match_request_of<'a, S: AsStr>(
+    alloc: Global,
+    words: &'a [S],
+) -> Result<MatchRequest<'a>, WordsFault>
+    ensures ok { IfOk result (λ r. IsMatchRequest (match_asked r) (map S.text words.entry.now)) }
+    ensures only { (a : _) → IsMatchRequest a (map S.text words.entry.now) → IsOkAnd result (λ r. match_asked r ≡ a) ⊎ (result ≡ Err WordsFault.Memory) }
+    ensures told { IfErr result IsTold }
 {
-    match refusal(alloc, words, why) {
+    match match_requested(alloc, words) {
+        Ok(request) => Ok(request),
+        Err(fault) => Err(told(match_command_line(alloc), words, fault)),
+    }
+}
+
+/// What there is to tell of words that make no request, by the command line that clap knows: why is what clap may not
+/// know.
+fn told<'a, S: AsStr>(
+    command: Result<Command<'a>, AllocError>,
+    words: &'a [S],
+    fault: ReadFault,
+) -> WordsFault
+    ensures told { IsTold result }
+    ensures memory { fault ≡ ReadFault.Memory → result ≡ WordsFault.Memory }
+{
+    let why = match fault {
+        ReadFault::Memory => return WordsFault::Memory,
+        ReadFault::Unknown => NO_REQUEST,
+        ReadFault::NoEnd => NO_END,
+        ReadFault::TwoInputs => TWO_INPUTS,
+    };
+    match refusal(command, words, why) {
         Ok(error) => fault_of(error),
         Err(error) => fault_of(error),
     }
 }
 
 /// What clap says, as a fault of the words.
-pub fn fault_of(error: Error) -> WordsFault
+fn fault_of(error: Error) -> WordsFault
     ensures { IsTold result }
 {
     match error.kind() {
@@ -66,17 +97,12 @@ pub fn fault_of(error: Error) -> WordsFault
 }
 
 /// What clap says of the words; where it takes them all the same, why they make no request.
-fn refusal<'a, S: AsStr>(alloc: Global, words: &'a [S], why: &str) -> Result<Error, Error> {
-    let mut command = command_line(alloc)?;
-    refused_by(&mut command, words, why)
-}
-
-/// What this command says of the words, or why they make no request.
-fn refused_by<'a, S: AsStr>(
-    command: &mut Command<'a>,
+fn refusal<'a, S: AsStr>(
+    command: Result<Command<'a>, AllocError>,
     words: &'a [S],
     why: &str,
 ) -> Result<Error, Error> {
+    let mut command = command?;
     match command.try_get_matches_from_mut(words) {
         Ok(_) => Ok(command.error(ErrorKind::InvalidValue, why)?),
         Err(error) => Ok(error),

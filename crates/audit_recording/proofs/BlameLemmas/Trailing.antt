@@ -1,5 +1,5 @@
 -- What is kept of a transfer, with one datagram more. Lists have the newest first.
-use Rattle.std.proofs.Common.{◌≡◌, ◌+◌, ◌-◌, ◌^◌, ◌&&◌, ◌||◌, ℕ, suc, Bool, true, false, true≢false, List, [], ◌∷◌, arith, filter, length, map, max, min, Option, Some, None, IfSome, IsSome, is_some, option_map, codes, refl, sym, ap, subst, ◌∙◌, unwrap_or, not}
+use Rattle.std.proofs.Common.{◌≡◌, ◌+◌, ◌-◌, ◌^◌, ◌&&◌, ◌||◌, ℕ, suc, Bool, true, false, true≢false, List, [], ◌∷◌, arith, filter, length, map, max, min, Option, Some, None, IfSome, IsSome, is_some, option_map, codes, refl, sym, ap, subst, ◌∙◌, unwrap_or}
 use Rattle.std.specs.List.{list_any}
 use Rattle.law_model.specs.Rules.{first_of, or_this}
 use Rattle.audit_flows.specs.Lines.{Placed, Recorded, agrees_late, begins_error, begins_unknown_id, is_of, may_be_earlier, rests_on_terms, same_endpoint, says_unknown_id, transfer_of}
@@ -13,8 +13,7 @@ use Rattle.audit_recording.specs.declared.judges.judging.Judging.{Judging}
 use Rattle.audit_recording.specs.declared.rows.row.Point.TheVariants.{Client, Server, Between}
 use Rattle.audit_recording.specs.Judges.{rollover_of}
 use Rattle.audit_recording.specs.Blame.Frames.{Carried, Framed, framed, framed_after, view_of, whole_of}
-use Rattle.audit_recording.specs.Blame.Kept.{IsBlameOf, IsNoted, IsPassing, IsTrailBetween, IsTrailOf, first_frame, is_about_it, is_copied, is_damaged, last_frame, last_time_in, passed_of, sent_of, with_spoilt}
-use Rattle.audit_recording.specs.Blame.Spoilt.{comes_to, intact_in, spoilt_from, spoilt_to}
+use Rattle.audit_recording.specs.Blame.Kept.{IsBlameOf, IsNoted, IsPassing, IsTrailBetween, IsTrailOf, comes_to, first_frame, is_about_it, is_copied, is_damaged, is_spoilt, is_wrong, last_frame, last_time_in, passed_of, sent_of}
 use Rattle.audit_recording.specs.Reasons.Twice.{IsTwiceAfter, sent}
 use Rattle.audit_recording.specs.Blame.Facts.{blamed_of, has_gone_on, is_for_server}
 use Rattle.audit_recording.specs.Blame.Named.{is_named, named_in, names_option, with_named}
@@ -24,7 +23,6 @@ use Rattle.audit_recording.specs.declared.blame.passing.Passing.{Passing}
 use Rattle.audit_recording.specs.declared.blame.trail.Trail.{Trail}
 use Rattle.audit_views.proofs.ViewsLemmas.Holding.{ends_too}
 use Rattle.audit_recording.proofs.BlameLemmas.Holding.{facts_passed_by, filter_both, filter_map, filter_none, filter_one}
-use Rattle.audit_recording.proofs.BlameLemmas.Spoilt.{with_one}
 
 -- the datagrams in their frames are those of the recording
 pub all_placed : (named : List ℕ) (carried : List Carried) → map (λ (f : Framed). f.placed) (framed named carried) ≡ whole_of named carried
@@ -228,6 +226,7 @@ module _ (old mid new : Trail) (judging : Judging) (x : Transfer) (named : List 
     pub transfer : mid.transfer ≡ old.transfer
     pub copied_from : mid.copied_from ≡ old.copied_from
     pub damaged : mid.damaged ≡ old.damaged
+    pub spoilt : mid.spoilt ≡ old.spoilt
     pub options : mid.options ≡ old.options
     pub told : IsTold mid x (view_of Client x.number named (c ∷ carried))
 
@@ -245,6 +244,7 @@ module _ (old mid new : Trail) (judging : Judging) (x : Transfer) (named : List 
           transfer = ap (λ (t : Trail). t.transfer) same;
           copied_from = ap (λ (t : Trail). t.copied_from) same;
           damaged = ap (λ (t : Trail). t.damaged) same;
+          spoilt = ap (λ (t : Trail). t.spoilt) same;
           options = ap (λ (t : Trail). t.options) same;
           told = subst (λ (t : Trail). IsTold t x (view_of Client x.number named (c ∷ carried))) (sym same) (subst (IsTold old x) (sym view_same) tells);
         }
@@ -256,6 +256,7 @@ module _ (old mid new : Trail) (judging : Judging) (x : Transfer) (named : List 
           transfer = noted.transfer;
           copied_from = noted.copied_from;
           damaged = noted.damaged;
+          spoilt = noted.spoilt;
           options = noted.options;
           told = subst (IsTold mid x) (sym view_more) (told_own old mid x f passing view was.transfer passes refl noted tells);
         }
@@ -277,33 +278,6 @@ module _ (old mid new : Trail) (judging : Judging) (x : Transfer) (named : List 
         let same : sent passing.source passing.target passing.payload.now ≡ sent_of f = λ i. sent (passes.source i) (passes.target i) (passes.payload i) in
         subst (λ l. IsTwiceAfter mid.twice (map sent_of l)) (sym view_more)
         (subst (λ d. IsTwiceAfter mid.twice (d ∷ map sent_of view)) same (own (subst IsSome (sym is) refl)))
-
-  -- the first one with a wrong checksum, each way
-  pub spoilt_at : (place : Place) → place ≡ f.placed.place → passing.is_intact ≡ intact_in f → (IsSome (transfer_of place) → IsNoted old mid passing) → (transfer_of place ≡ None → mid ≡ old)
-      → (mid.from_client ≡ spoilt_from x (view_of Client x.number named (c ∷ carried))) × (mid.to_client ≡ spoilt_to x (view_of Client x.number named (c ∷ carried)))
-  spoilt_at place at intact own beside = by (transfer_of place) refl where
-    is_own : is_of x.number f.placed ≡ is_some (transfer_of place)
-    is_own = own_about x.number f.placed about ∙ ap (λ p. is_some (transfer_of p)) (sym at)
-
-    by : (o : Option Transfer) → transfer_of place ≡ o
-        → (mid.from_client ≡ spoilt_from x (view_of Client x.number named (c ∷ carried))) × (mid.to_client ≡ spoilt_to x (view_of Client x.number named (c ∷ carried)))
-    by None none =
-        let view_same : view_of Client x.number named (c ∷ carried) ≡ view = filter_none (λ (g : Framed). is_of x.number g.placed) f (framed named carried) (is_own ∙ ap is_some none) in (
-          ap (λ (t : Trail). t.from_client) (beside none) ∙ was.from_client ∙ ap (spoilt_from x) (sym view_same),
-          ap (λ (t : Trail). t.to_client) (beside none) ∙ was.to_client ∙ ap (spoilt_to x) (sym view_same),
-        )
-    by (Some y) is =
-        let noted : IsNoted old mid passing = own (subst IsSome (sym is) refl) in
-        let view_more : view_of Client x.number named (c ∷ carried) ≡ f ∷ view = filter_one (λ (g : Framed). is_of x.number g.placed) f (framed named carried) (is_own ∙ ap is_some is) in (
-          noted.from_client
-              ∙ (λ i. with_spoilt (not (same_endpoint (passes.target i) ((was.transfer i).client))) passing (was.from_client i))
-              ∙ with_one (λ (g : Framed). not (comes_to x g)) f view passing passes intact
-              ∙ ap (spoilt_from x) (sym view_more),
-          noted.to_client
-              ∙ (λ i. with_spoilt (same_endpoint (passes.target i) ((was.transfer i).client)) passing (was.to_client i))
-              ∙ with_one (comes_to x) f view passing passes intact
-              ∙ ap (spoilt_to x) (sym view_more),
-        )
 
   -- what some datagram about it names
   pub named_at : (place : Place) → place ≡ f.placed.place → (IsSome (transfer_of place) → IsNoted old mid passing) → (transfer_of place ≡ None → mid ≡ old)
@@ -333,13 +307,13 @@ module _ (old mid new : Trail) (judging : Judging) (x : Transfer) (named : List 
   pub trail_more : (place : Place) → place ≡ f.placed.place → (IsSome (transfer_of place) → IsNoted old mid passing) → (transfer_of place ≡ None → mid ≡ old)
       → new.transfer ≡ mid.transfer → new.first ≡ mid.first → new.last ≡ mid.last → new.count ≡ mid.count → new.last_time ≡ mid.last_time → new.is_answered ≡ mid.is_answered
       → new.copied_from ≡ or_this mid.copied_from passing.is_doubtful passing.frame → new.damaged ≡ or_this mid.damaged passing.has_error passing.frame
+      → new.spoilt ≡ or_this mid.spoilt passing.has_wrong_checksum passing.frame
       → new.ends.number ≡ x.number → AreEndsAfter new.ends (whole_of named (c ∷ carried)) → (opened_it x.number f.placed ≡ true → c.frame ≡ old.first)
       → new.has_gone_on ≡ has_gone_on x (whole_of named (c ∷ carried)) → new.options ≡ named_in x (whole_of named (c ∷ carried))
       → IsTwiceAfter new.twice (map sent_of (view_of Client x.number named (c ∷ carried)))
-      → (new.from_client ≡ spoilt_from x (view_of Client x.number named (c ∷ carried))) × (new.to_client ≡ spoilt_to x (view_of Client x.number named (c ∷ carried)))
       → IsClosingOf new.closing x (view_of Client x.number named (c ∷ carried))
       → IsBlameOf new.blame judging x (whole_of named (c ∷ carried)) (framed named (c ∷ carried)) → IsTrailOf new judging x named (c ∷ carried)
-  trail_more place at own beside transfer first last count last_time is_answered copied_from damaged number ends opens gone names twice spoilt closing blame =
+  trail_more place at own beside transfer first last count last_time is_answered copied_from damaged spoilt number ends opens gone names twice closing blame =
       let m = noted_at place at own beside in
       let frames = framed named carried in
       record {
@@ -359,8 +333,8 @@ module _ (old mid new : Trail) (judging : Judging) (x : Transfer) (named : List 
             (and_first (is_about x.number f.placed) passing.is_doubtful c.is_doubtful about passes.is_doubtful) passes.frame;
         damaged = damaged ∙ first_one (is_damaged x.number) f frames mid.damaged passing.has_error passing.frame (m.damaged ∙ was.damaged)
             (and_first (is_about x.number f.placed) passing.has_error c.has_error about passes.has_error) passes.frame;
-        from_client = spoilt.0;
-        to_client = spoilt.1;
+        spoilt = spoilt ∙ first_one (is_spoilt x.number) f frames mid.spoilt passing.has_wrong_checksum passing.frame (m.spoilt ∙ was.spoilt)
+            (and_first (is_about x.number f.placed) passing.has_wrong_checksum (is_wrong c.checksum) about passes.has_wrong_checksum) passes.frame;
         closing = closing;
         blame = blame;
       }
@@ -400,8 +374,7 @@ trail_passed_by t judging x named c carried off was =
       twice = subst (λ l. IsTwiceAfter t.twice (map sent_of l)) (sym view_same) was.twice;
       copied_from = was.copied_from ∙ sym (first_same (is_copied x.number) f frames (and_none (is_about x.number f.placed) c.is_doubtful off));
       damaged = was.damaged ∙ sym (first_same (is_damaged x.number) f frames (and_none (is_about x.number f.placed) c.has_error off));
-      from_client = was.from_client ∙ ap (spoilt_from x) (sym view_same);
-      to_client = was.to_client ∙ ap (spoilt_to x) (sym view_same);
+      spoilt = was.spoilt ∙ sym (first_same (is_spoilt x.number) f frames (and_none (is_about x.number f.placed) (is_wrong c.checksum) off));
       closing = subst (IsClosingOf t.closing x) (sym view_same) was.closing;
       blame = blame_passed_by t.blame judging x f (whole_of named carried) frames off was.blame;
     }
@@ -415,9 +388,9 @@ between_passed_by t judging x named c carried off was there =
 
 pub trail_new : (t : Trail) (judging : Judging) (x : Transfer) (named : List ℕ) (carried : List Carried) → filter (is_about_it x.number) (framed named carried) ≡ []
     → t.transfer ≡ x → t.ends.number ≡ x.number → AreEndsAfter t.ends [] → t.last ≡ t.first → t.count ≡ 0 → t.last_time ≡ 0 → t.is_answered ≡ false → t.has_gone_on ≡ false → t.options ≡ record { windows = false; sizes = false } → t.copied_from ≡ None → t.damaged ≡ None
-    → t.from_client ≡ None → t.to_client ≡ None
+    → t.spoilt ≡ None
     → IsTwiceAfter t.twice [] → IsClosingOf t.closing x [] → IsBlameOf t.blame judging x (whole_of named carried) (framed named carried) → IsTrailOf t judging x named carried
-trail_new t judging x named carried unheard transfer number ends last count last_time is_answered gone names copied_from damaged from_client to_client twice closing blame =
+trail_new t judging x named carried unheard transfer number ends last count last_time is_answered gone names copied_from damaged spoilt twice closing blame =
     let frames = framed named carried in
     let none : view_of Client x.number named carried ≡ [] = view_unheard x.number frames unheard in
     record {
@@ -434,8 +407,7 @@ trail_new t judging x named carried unheard transfer number ends last count last
       twice = subst (λ l. IsTwiceAfter t.twice (map sent_of l)) (sym none) twice;
       copied_from = copied_from ∙ sym (no_first x.number (is_copied x.number) (λ f off. and_none (is_about x.number f.placed) f.carried.is_doubtful off) frames unheard);
       damaged = damaged ∙ sym (no_first x.number (is_damaged x.number) (λ f off. and_none (is_about x.number f.placed) f.carried.has_error off) frames unheard);
-      from_client = from_client ∙ ap (spoilt_from x) (sym none);
-      to_client = to_client ∙ ap (spoilt_to x) (sym none);
+      spoilt = spoilt ∙ sym (no_first x.number (is_spoilt x.number) (λ f off. and_none (is_about x.number f.placed) (is_wrong f.carried.checksum) off) frames unheard);
       closing = subst (IsClosingOf t.closing x) (sym none) closing;
       blame = blame;
     }

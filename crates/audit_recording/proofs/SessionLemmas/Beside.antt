@@ -15,7 +15,7 @@ use Rattle.audit_recording.specs.Reasons.Unplaced.{Event, IsUnplacedAfter, after
 use Rattle.audit_recording.specs.Reasons.Unplaced.Event.{Ends, Opens, Passes}
 use Rattle.audit_recording.specs.Session.Beside.{AreMarksKept, HaveEnded, IsMarkedBy, Mark, discarded_beside, discarding_if, events_of, gone_of, last_time_of, leaving_out, leaving_out_if, leaving_out_some, left_out_of, without_ends}
 use Rattle.audit_recording.specs.Session.Beside.Mark.{Begins, Discards, Joins, Strays}
-use Rattle.audit_recording.specs.Session.Intact.{Gone, before_opening, newest_at}
+use Rattle.audit_recording.specs.Session.Discards.{Gone, before_opening, newest_at}
 use Rattle.audit_recording.specs.declared.blame.trail.Trail.{Trail}
 use Rattle.audit_recording.specs.declared.session.unplaced.Moment.{Moment}
 use Rattle.audit_recording.specs.declared.session.unplaced.Unplaced.{Unplaced}
@@ -90,7 +90,7 @@ if_so P Q None on was = tt
 if_so P Q (Some t) on was = on t was
 
 -- the transfer with this number, whose trail is kept, is its client's newest by what is kept as by what was noted
-newest_here : (u : Unplaced) (trails : BTreeMap ℕ Trail) (out : List ℕ) (marks : List Mark) (kept : AreMarksKept u trails out marks) (n : ℕ) (c : Endpoint) (o : Option ℕ) → is_among n out ≡ false → o ≡ newest_of c kept.history
+pub newest_here : (u : Unplaced) (trails : BTreeMap ℕ Trail) (out : List ℕ) (marks : List Mark) (kept : AreMarksKept u trails out marks) (n : ℕ) (c : Endpoint) (o : Option ℕ) → is_among n out ≡ false → o ≡ newest_of c kept.history
     → is_it n o ≡ is_it n (newest_of c (events_of marks))
 newest_here u trails out marks kept n c o here is = ap (is_it n) is ∙ newest_kept n c out kept.history here kept.ended ∙ ap (λ es. is_it n (newest_of c es)) kept.noted
 

@@ -59,7 +59,7 @@ asking_times Nowhere frame s = refl
 
 -- the notes do not tell what is beside the transfers
 pub notes_marked : (n : Notes) (place : Place) (c : Carried) (s : Noticed) → AreNotesOf n s → AreNotesOf n (marking place c s)
-notes_marked n place c s are = record { losses = are.losses; frames = are.frames; intact = are.intact; clock = are.clock; kinds = are.kinds; behind = are.behind; begun = are.begun; asked = are.asked }
+notes_marked n place c s are = record { losses = are.losses; frames = are.frames; discards = are.discards; clock = are.clock; kinds = are.kinds; behind = are.behind; begun = are.begun; asked = are.asked }
 
 -- ---- what a frame without one adds
 

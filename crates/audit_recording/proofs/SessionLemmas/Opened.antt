@@ -17,10 +17,11 @@ may_lose_too lose session named out history carried s is = record {
   noticed = is.noticed;
   kept = record {
     audit = is.kept.audit;
-    notes = record { losses = is.kept.notes.losses; frames = is.kept.notes.frames; intact = is.kept.notes.intact; clock = is.kept.notes.clock; kinds = is.kept.notes.kinds; behind = is.kept.notes.behind; begun = is.kept.notes.begun; asked = is.kept.notes.asked };
+    notes = record { losses = is.kept.notes.losses; frames = is.kept.notes.frames; discards = is.kept.notes.discards; clock = is.kept.notes.clock; kinds = is.kept.notes.kinds; behind = is.kept.notes.behind; begun = is.kept.notes.begun; asked = is.kept.notes.asked };
     trails = is.kept.trails;
     texts = is.kept.texts;
     beside = is.kept.beside;
+    unreached = is.kept.unreached;
   };
 }
 

@@ -13,7 +13,7 @@ use Rattle.audit_flows.proofs.LinesLemmas.Lines.{by_test}
 use Rattle.audit_recording.specs.Blame.Frames.{Carried, Framed, datagrams_of, framed, framed_after, whole_of}
 use Rattle.audit_recording.specs.Blame.Kept.{IsBlameBetween, IsTrailBetween, IsTrailOf, is_about_it}
 use Rattle.audit_recording.specs.Judges.{IsNew, WereOpened, is_among, opened}
-use Rattle.audit_recording.specs.Session.Intact.{discarding}
+use Rattle.audit_recording.specs.Session.Discards.{discarding}
 use Rattle.audit_recording.specs.Session.Trails.{AreTrailsBegun, AreTrailsKept, IsBegunBy, IsTrailAfter, IsTrailKept, opening_of}
 use Rattle.audit_recording.specs.declared.blame.blame.Blame.{Blame}
 use Rattle.audit_recording.specs.declared.blame.trail.Trail.{Trail}
@@ -27,31 +27,6 @@ use Rattle.audit_recording.proofs.JudgesLemmas.Keeping.{new_before, opened_elsew
 -- the one is kept as the other is
 abbrev pub Stays : Trail → Trail → Type 0
 Stays t u = (judging : Judging) (x : Transfer) (named : List ℕ) (carried : List Carried) → IsTrailAfter t judging x named carried → IsTrailAfter u judging x named carried
-
-pub stays_discarding : (t : Trail) (frame : Option ℕ) → Stays t (discarding frame t)
-stays_discarding t frame judging x named carried was = record {
-  own = record {
-    transfer = was.own.transfer;
-    number = was.own.number;
-    ends = was.own.ends;
-    first = was.own.first;
-    last = was.own.last;
-    count = was.own.count;
-    last_time = was.own.last_time;
-    is_answered = was.own.is_answered;
-    has_gone_on = was.own.has_gone_on;
-    options = was.own.options;
-    twice = was.own.twice;
-    copied_from = was.own.copied_from;
-    damaged = was.own.damaged;
-    from_client = was.own.from_client;
-    to_client = was.own.to_client;
-    closing = was.own.closing;
-    blame = was.own.blame;
-  };
-  between = was.between;
-  begun = was.begun;
-}
 
 pub own_discarding : (t : Trail) (frame : Option ℕ) (judging : Judging) (x : Transfer) (named : List ℕ) (carried : List Carried) → IsTrailOf t judging x named carried → IsTrailOf (discarding frame t) judging x named carried
 own_discarding t frame judging x named carried was = record {
@@ -68,11 +43,13 @@ own_discarding t frame judging x named carried was = record {
   twice = was.twice;
   copied_from = was.copied_from;
   damaged = was.damaged;
-  from_client = was.from_client;
-  to_client = was.to_client;
+  spoilt = was.spoilt;
   closing = was.closing;
   blame = was.blame;
 }
+
+stays_discarding : (t : Trail) (frame : Option ℕ) → Stays t (discarding frame t)
+stays_discarding t frame judging x named carried was = record { own = own_discarding t frame judging x named carried was.own; between = was.between; begun = was.begun }
 
 -- what is the same but for the frame that was discarded
 pub stays_discarded : (t u : Trail) (frame : Option ℕ) → u ≡ discarding frame t → Stays t u

@@ -32,7 +32,6 @@ use Rattle.audit_recording.specs.Audit.{IsOfEvent}
 use Rattle.audit_recording.specs.Audit.Passed.{IsRequest, end_of}
 use Rattle.audit_recording.specs.Blame.Frames.{framed_after}
 use Rattle.audit_recording.specs.Losses.Noted.Event.{Asks, Finds, Loses, Waits as Awaits}
-use Rattle.audit_recording.specs.Reasons.Spoilt.{checked}
 use Rattle.audit_recording.specs.Endings.Worked.{asked_first}
 use Rattle.audit_recording.specs.Session.Beside.Mark.{Begins, Joins}
 use Rattle.audit_recording.specs.Session.Noted.{Noticed, finding, nothing_noticed}
@@ -132,7 +131,6 @@ module _ (content : Made) (frames : Vec ℕ Global) (asked acked : Given) (is : 
   has_asked = record {
     last = 2;
     events = Asks client.address 2 ∷ Awaits (unread_at 1 1000000000) ∷ [];
-    seen = checked 2 client.address (Some true) ∷ [];
     gone = [];
     times = 2000000000 ∷ [];
     copies = [];
@@ -177,7 +175,6 @@ module _ (content : Made) (frames : Vec ℕ Global) (asked acked : Given) (is : 
   has_acked = record {
     last = 2;
     events = Finds 3 0 ∷ Finds 1 0 ∷ Asks client.address 2 ∷ Awaits (unread_at 1 1000000000) ∷ [];
-    seen = checked 3 client.address (Some true) ∷ checked 2 client.address (Some true) ∷ [];
     gone = [];
     times = 3000000000 ∷ 2000000000 ∷ [];
     copies = [];
@@ -214,7 +211,7 @@ module _ (content : Made) (frames : Vec ℕ Global) (asked acked : Given) (is : 
         };
       },
       refl,
-      sym (ap (λ (l : List ℕ). setting_aside at (stray_in ack_carried) (asking at 3 (marking at ack_carried (passing_at at Right ack_carried (finding 0 l has_asked))))) of),
+      sym (ap (λ (l : List ℕ). setting_aside at (stray_in ack_carried) (asking at 3 (marking at ack_carried (passing_at ack_carried (finding 0 l has_asked))))) of),
     ),
   ) where
     at : Place

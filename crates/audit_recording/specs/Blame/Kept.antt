@@ -1,8 +1,10 @@
 -- What is kept of a transfer beside its judges, and of which datagrams. Lists have the newest first; `whole` are the datagrams of
 -- a recording with their places, `frames` the same in their frames.
-use Rattle.std.specs.Prelude.{◌≡◌, ◌⊎◌, ◌<◌, ◌+◌, ◌^◌, ◌-◌, ◌&&◌, ◌||◌, ◌++◌, ℕ, Bool, true, List, [], ◌∷◌, filter, length, map, max, min, reverse, unwrap_or, IfSome, Option, Some, None, option_map, not, if◌then◌else◌}
+use Rattle.std.specs.Prelude.{◌≡◌, ◌⊎◌, ◌<◌, ◌+◌, ◌^◌, ◌-◌, ◌&&◌, ◌||◌, ◌++◌, ℕ, Bool, true, false, List, [], ◌∷◌, filter, length, map, max, min, reverse, unwrap_or, IfSome, Option, Some, None, option_map}
 use Rattle.std.specs.List.{list_any}
 use Rattle.law_end.specs.{Rule}
+use Rattle.net_udp.specs.declared.frames.checksum.Checksum.{Checksum}
+use Rattle.net_udp.specs.declared.frames.checksum.Checksum.TheVariants.{Absent, Partial, Right, Wrong}
 use Rattle.tftp_packet.specs.{Rollover}
 use Rattle.law_model.specs.Rules.{first_of}
 use Rattle.audit_flows.specs.Lines.{Placed, same_endpoint}
@@ -14,7 +16,6 @@ use Rattle.audit_recording.specs.declared.blame.facts.Found.{Found}
 use Rattle.audit_recording.specs.declared.blame.facts.ViewFacts.{ViewFacts}
 use Rattle.audit_recording.specs.declared.blame.passed.Passed.{Passed}
 use Rattle.audit_recording.specs.declared.blame.passing.Passing.{Passing}
-use Rattle.audit_recording.specs.declared.blame.spoilt.Spoilt.{Spoilt}
 use Rattle.audit_recording.specs.declared.blame.told.Told.{Told}
 use Rattle.audit_recording.specs.declared.blame.told.Told.TheVariants.{Accepted, Nothing, Refused}
 use Rattle.audit_recording.specs.declared.blame.trail.Trail.{Trail}
@@ -25,9 +26,7 @@ use Rattle.audit_recording.specs.Endings.Kept.{IsClosingOf}
 use Rattle.audit_recording.specs.Judges.{points_of, rollover_of}
 use Rattle.audit_recording.specs.Blame.Frames.{Carried, Framed, framed, is_seen, numbered, seen_of, view_of, whole_of}
 use Rattle.audit_recording.specs.Blame.Named.{named_in}
-use Rattle.audit_recording.specs.Blame.Spoilt.{comes_to, spoilt_from, spoilt_to}
 use Rattle.audit_recording.specs.Blame.Facts.{IsRefusedAt, blamed_of, has_gone_on, is_for_server}
-use Rattle.audit_recording.specs.Reasons.Spoilt.{checked, earlier_or, spoilt_by}
 use Rattle.audit_recording.specs.Reasons.Twice.{IsTwiceAfter, Sent, sent}
 
 -- ---- what a judge tells
@@ -117,12 +116,21 @@ IsBlameBetween b judging x whole frames = (points_of judging x).between ≡ true
 
 -- ---- a transfer, as far as it was read
 
+-- One of a datagram's checksums is wrong: its host discards it (RFC 1122, sections 3.2.1.2 and 4.1.3.4). One that was left to its sender's
+-- network card was made after the recording.
+abbrev pub is_wrong : Checksum → Bool
+is_wrong Absent = false
+is_wrong Right = false
+is_wrong Partial = false
+is_wrong Wrong = true
+
 -- the datagram in its frame
 pub record IsPassing (passing : Passing) (c : Carried) : Type 0 where
   pub frame : passing.frame ≡ c.frame
   pub time : passing.time ≡ c.time
   pub is_doubtful : passing.is_doubtful ≡ c.is_doubtful
   pub has_error : passing.has_error ≡ c.has_error
+  pub has_wrong_checksum : passing.has_wrong_checksum ≡ is_wrong c.checksum
   pub source : passing.source ≡ c.datagram.source
   pub target : passing.target ≡ c.datagram.target
   pub payload : passing.payload.now ≡ c.datagram.payload
@@ -149,28 +157,13 @@ is_copied n f = is_about n f.placed && f.carried.is_doubtful
 abbrev pub is_damaged : ℕ → Framed → Bool
 is_damaged n f = is_about n f.placed && f.carried.has_error
 
--- the first spoilt datagram of a way, with this one, if it went that way
-abbrev pub with_spoilt : Bool → Passing → Option Spoilt → Option Spoilt
-with_spoilt is_that_way p known = if is_that_way then earlier_or known (spoilt_by (checked p.frame p.source.address p.is_intact)) else known
+-- about the transfer, and one of its checksums is wrong
+abbrev pub is_spoilt : ℕ → Framed → Bool
+is_spoilt n f = is_about n f.placed && is_wrong f.carried.checksum
 
--- all but who was answered and what is spoilt is as before
-pub record IsSameBut (old new : Trail) : Type 0 where
-  pub transfer : new.transfer ≡ old.transfer
-  pub request : new.request ≡ old.request
-  pub first : new.first ≡ old.first
-  pub last : new.last ≡ old.last
-  pub count : new.count ≡ old.count
-  pub last_time : new.last_time ≡ old.last_time
-  pub ends : new.ends ≡ old.ends
-  pub has_gone_on : new.has_gone_on ≡ old.has_gone_on
-  pub options : new.options ≡ old.options
-  pub left_out : new.left_out ≡ old.left_out
-  pub copied_from : new.copied_from ≡ old.copied_from
-  pub damaged : new.damaged ≡ old.damaged
-  pub twice : new.twice ≡ old.twice
-  pub discarded : new.discarded ≡ old.discarded
-  pub closing : new.closing ≡ old.closing
-  pub blame : new.blame ≡ old.blame
+-- it came to the client
+abbrev pub comes_to : Transfer → Framed → Bool
+comes_to x f = same_endpoint f.placed.datagram.target x.client
 
 -- a datagram at its client was noted
 pub record IsNoted (old new : Trail) (passing : Passing) : Type 0 where
@@ -188,8 +181,7 @@ pub record IsNoted (old new : Trail) (passing : Passing) : Type 0 where
   pub copied_from : new.copied_from ≡ old.copied_from
   pub damaged : new.damaged ≡ old.damaged
   pub discarded : new.discarded ≡ old.discarded
-  pub from_client : new.from_client ≡ with_spoilt (not (same_endpoint passing.target old.transfer.client)) passing old.from_client
-  pub to_client : new.to_client ≡ with_spoilt (same_endpoint passing.target old.transfer.client) passing old.to_client
+  pub spoilt : new.spoilt ≡ old.spoilt
   pub closing : new.closing ≡ old.closing
   pub blame : new.blame ≡ old.blame
 
@@ -212,8 +204,7 @@ pub record IsTrailOf (t : Trail) (judging : Judging) (x : Transfer) (named : Lis
   pub twice : IsTwiceAfter t.twice (map sent_of (view_of Client x.number named carried))
   pub copied_from : t.copied_from ≡ first_frame (is_copied x.number) (framed named carried)
   pub damaged : t.damaged ≡ first_frame (is_damaged x.number) (framed named carried)
-  pub from_client : t.from_client ≡ spoilt_from x (view_of Client x.number named carried)
-  pub to_client : t.to_client ≡ spoilt_to x (view_of Client x.number named carried)
+  pub spoilt : t.spoilt ≡ first_frame (is_spoilt x.number) (framed named carried)
   pub closing : IsClosingOf t.closing x (view_of Client x.number named carried)
   pub blame : IsBlameOf t.blame judging x (whole_of named carried) (framed named carried)
 

@@ -13,7 +13,7 @@ use Rattle.audit_recording.specs.Judges.{is_among}
 use Rattle.audit_recording.specs.Losses.Kept.{lesser}
 use Rattle.audit_recording.specs.Reasons.Unplaced.{Event, IsUnplacedAfter, after, is_it, latest_at, newest_of}
 use Rattle.audit_recording.specs.Reasons.Unplaced.Event.{Ends, Opens, Passes}
-use Rattle.audit_recording.specs.Session.Intact.{Gone, before_opening, discarding, newest_at}
+use Rattle.audit_recording.specs.Session.Discards.{Gone, before_opening, discarding, newest_at}
 use Rattle.audit_recording.specs.declared.blame.trail.Trail.{Trail}
 use Rattle.audit_recording.specs.declared.session.unplaced.Moment.{Moment}
 use Rattle.audit_recording.specs.declared.session.unplaced.Unplaced.{Unplaced}

@@ -6,6 +6,7 @@ use Rattle.net_udp.specs.declared.recording.fate.Fate.TheVariants.{Datagram}
 use Rattle.audit_recording.specs.Audit.Audited.{AuditsAfter, RecordingAudit}
 use Rattle.audit_recording.specs.Blame.Frames.{Carried, datagrams_of}
 use Rattle.audit_recording.specs.Session.Beside.{AreMarksKept}
+use Rattle.audit_recording.specs.Session.Heard.{AreUnreachedKept, IsFrameOf}
 use Rattle.audit_recording.specs.Session.Noted.{AreNotesOf, Noticed}
 use Rattle.audit_recording.specs.Session.Recording.{IsNoticedOf}
 use Rattle.audit_recording.specs.Session.Texts.{AreTextsKept}
@@ -23,11 +24,32 @@ pub record IsSessionOf (session : Session) (named out : List ℕ) (history : Lis
   pub trails : AreTrailsKept session.trails session.audit.judge.judging named out carried
   pub texts : AreTextsKept session.kept named carried
   pub beside : AreMarksKept session.unplaced session.trails out s.beside
+  pub unreached : AreUnreachedKept session.unreached named out history carried
 
 -- By these frames these datagrams came, and this was noticed; it is their session.
 pub record IsSessionAfter (session : Session) (named out : List ℕ) (history : List Step) (carried : List Carried) (s : Noticed) : Type 0 where
   pub noticed : IsNoticedOf named history carried s
   pub kept : IsSessionOf session named out history carried s
+
+-- ---- within the reading of a frame
+
+-- the same, but that what the newest frame tells of datagrams that did not arrive was not looked at
+pub record IsReadOf (session : Session) (named out : List ℕ) (history : List Step) (carried : List Carried) (s : Noticed) : Type 0 where
+  pub audit : AuditsAfter session.audit named out history (datagrams_of carried)
+  pub notes : AreNotesOf session.notes s
+  pub trails : AreTrailsKept session.trails session.audit.judge.judging named out carried
+  pub texts : AreTextsKept session.kept named carried
+  pub beside : AreMarksKept session.unplaced session.trails out s.beside
+
+pub record IsReadAfter (session : Session) (named out : List ℕ) (history : List Step) (carried : List Carried) (s : Noticed) : Type 0 where
+  pub noticed : IsNoticedOf named history carried s
+  pub kept : IsReadOf session named out history carried s
+
+-- The frames are those that were read before, or one more, which is that of the event; and it brought one datagram more or none.
+abbrev pub AddsFrame : List Step → List Carried → EventState → List Step → List Carried → Type 0
+AddsFrame history carried event frames all =
+    ((frames ≡ history) × (all ≡ carried))
+    ⊎ ((step : Step) × (frames ≡ step ∷ history) × IsFrameOf step history event × ((all ≡ carried) ⊎ ((c : Carried) × (all ≡ c ∷ carried) × (c.frame ≡ event.frame.number))))
 
 -- the event's frame has given no datagram
 abbrev pub GivesNone : EventState → Type 0

@@ -18,24 +18,22 @@ use Rattle.audit_recording.specs.Losses.Noted.{Event, Unread}
 use Rattle.audit_recording.specs.Losses.Noted.Event.{Asks, Finds, GivesUp, Loses, Waits}
 use Rattle.audit_recording.specs.Losses.Kept.{AreLosses}
 use Rattle.audit_recording.specs.Reasons.Clock.{IsClockAfter, last_of}
-use Rattle.audit_recording.specs.Reasons.Spoilt.{Checked, checked}
 use Rattle.audit_recording.specs.Session.Beside.{Mark}
 use Rattle.audit_recording.specs.Session.Beside.Mark.{Discards}
+use Rattle.audit_recording.specs.Session.Discards.{AreDiscardsAfter, Gone}
 use Rattle.audit_recording.specs.Session.Hidden.{AreBehindOf, Hidden, hiding}
-use Rattle.audit_recording.specs.Session.Intact.{AreIntactAfter, Gone}
 use Rattle.audit_recording.specs.Session.Strays.{AreBegunOf, Stray, asked_ports, stray_frames}
 use Rattle.audit_recording.specs.Session.Told.{AreKindsOf, Told}
 
 -- ---- what was noted
 
 -- The number of the newest frame that was noted as one that asks, waits or is lost; what befell those that are not there whole; the
--- datagrams of transfers, with what their checksums tell; those that their hosts discarded; and the times of the former. The frames that were
--- left out as copies, those of another link type, and those that are older than the one before. The datagrams of no transfer; and the frames
--- that are lost behind a header that is not read. Then what is noted beside the transfers.
+-- datagrams that their hosts discarded; and the times of the others. The frames that were left out as copies, those of another link type, and
+-- those that are older than the one before. The datagrams of no transfer; and the frames that are lost behind a header that is not read. Then
+-- what is noted beside the transfers.
 pub record Noticed : Type 0 where
   pub last : ℕ
   pub events : List Event
-  pub seen : List Checked
   pub gone : List Gone
   pub times : List ℕ
   pub copies : List ℕ
@@ -46,7 +44,7 @@ pub record Noticed : Type 0 where
   pub beside : List Mark
 
 abbrev pub nothing_noticed : Noticed
-nothing_noticed = record { last = 0; events = []; seen = []; gone = []; times = []; copies = []; other_links = []; backwards = []; strays = []; hidden = []; beside = [] }
+nothing_noticed = record { last = 0; events = []; gone = []; times = []; copies = []; other_links = []; backwards = []; strays = []; hidden = []; beside = [] }
 
 -- the frames that are not there whole: those that are lost, and those that waited in vain
 abbrev pub lost_frames : List Event → List ℕ
@@ -81,7 +79,7 @@ AreUpTo last (GivesUp frame ∷ older) = AreUpTo last older
 pub record AreNotesOf (n : Notes) (s : Noticed) : Type 0 where
   pub losses : AreLosses n.losses s.events
   pub frames : AreUpTo s.last s.events
-  pub intact : AreIntactAfter n.intact s.seen s.gone
+  pub discards : AreDiscardsAfter n.discards s.gone
   pub clock : IsClockAfter n.clock s.times
   pub kinds : AreKindsOf n.kinds (told_in s)
   pub behind : AreBehindOf n.behind s.hidden
@@ -121,10 +119,9 @@ abbrev pub going_back : ℕ → Option ℕ → List ℕ → List ℕ → List �
 going_back frame None times older = older
 going_back frame (Some time) times older = if nat_lt time (last_of times) then frame ∷ older else older
 
--- a datagram of a transfer has passed
+-- a datagram has passed
 abbrev pub passing_by : Passing → Noticed → Noticed
 passing_by p s = record s {
-  seen = checked p.frame p.source.address p.is_intact ∷ s.seen;
   times = with_time p.time s.times;
   backwards = going_back p.frame p.time s.times s.backwards;
 }

@@ -3,7 +3,6 @@ use Rattle.std.specs.Prelude.{◌≡◌, ◌∷◌, ℕ, Bool, true, false, List
 use Rattle.std.specs.declared.net.ip_addr.IpAddr.{IpAddr}
 use Rattle.net_udp.specs.Recording.Alike.{is_doubtful}
 use Rattle.net_udp.specs.Recording.{BroughtState, EventState, IsFateOf, Step, checksum_told}
-use Rattle.net_udp.specs.declared.frames.checksum.Checksum.{Checksum}
 use Rattle.net_udp.specs.declared.frames.unread.UnreadHeader.{UnreadHeader}
 use Rattle.net_udp.specs.declared.recording.fate.Datagram.{Datagram as Given}
 use Rattle.net_udp.specs.declared.recording.fate.Fate.TheVariants.{Datagram, Discarded, Left, Waits}
@@ -14,13 +13,11 @@ use Rattle.audit_flows.specs.{Place}
 use Rattle.audit_recording.specs.Audit.Audited.{IsOfEvent}
 use Rattle.audit_recording.specs.Audit.Passed.{IsTaken, end_of, time_by}
 use Rattle.audit_recording.specs.Blame.Frames.{Carried, datagrams_of, framed_after}
-use Rattle.audit_recording.specs.Blame.Spoilt.{intact_at}
 use Rattle.audit_recording.specs.Losses.Noted.Event.{Asks, Waits as Awaits}
 use Rattle.audit_recording.specs.Reasons.Clock.{last_of}
-use Rattle.audit_recording.specs.Reasons.Spoilt.{checked}
 use Rattle.audit_recording.specs.Session.Beside.{Mark}
 use Rattle.audit_recording.specs.Session.Beside.Mark.{Begins, Joins, Strays}
-use Rattle.audit_recording.specs.Session.Intact.{Gone}
+use Rattle.audit_recording.specs.Session.Discards.{Gone}
 use Rattle.audit_recording.specs.Session.Strays.{Stray}
 use Rattle.audit_recording.specs.Session.Noted.{AreHostsOf, IsHeaderOf, Noticed, finding, frames_in, giving_up, going, going_back, leaving, leaving_aside, losing, may_be_datagram, nothing_noticed, noting, sharers_of, unread_in, with_time}
 
@@ -42,9 +39,8 @@ pub record IsCarriedBy (event : EventState) (given : Given) (older : List Carrie
   pub taken : IsTaken given (time_by event.frame.parts.time (datagrams_of older)) c.datagram
 
 -- it has passed
-abbrev pub passing_at : Place → Checksum → Carried → Noticed → Noticed
-passing_at place checksum c s = record s {
-  seen = checked c.frame c.datagram.source.address (intact_at place checksum) ∷ s.seen;
+abbrev pub passing_at : Carried → Noticed → Noticed
+passing_at c s = record s {
   times = with_time c.time s.times;
   backwards = going_back c.frame c.time s.times s.backwards;
 }
@@ -97,7 +93,7 @@ setting_aside Nowhere d s = leaving_aside d s
 -- its packet is there whole, it has passed, it is noted beside the transfers, it may ask, and it may be of no transfer
 abbrev pub placing : Place → EventState → Carried → Noticed → Noticed
 placing place event c s =
-    setting_aside place (stray_in c) (asking place c.frame (marking place c (passing_at place (checksum_told event.sent) c (finding (reached_by s.times) (sharers_of event) s))))
+    setting_aside place (stray_in c) (asking place c.frame (marking place c (passing_at c (finding (reached_by s.times) (sharers_of event) s))))
 
 -- ---- what is no datagram of a transfer
 

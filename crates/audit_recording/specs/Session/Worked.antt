@@ -18,7 +18,6 @@ use Rattle.audit_flows.specs.Transfers.{ack_of, client, read_of, service}
 use Rattle.audit_recording.specs.Blame.Frames.{Carried}
 use Rattle.audit_recording.specs.Losses.Noted.{Unread}
 use Rattle.audit_recording.specs.Losses.Noted.Event.{Asks, Finds, GivesUp, Loses, Waits as Awaits}
-use Rattle.audit_recording.specs.Reasons.Spoilt.{checked}
 use Rattle.audit_recording.specs.Reasons.Unplaced.{worked_end}
 use Rattle.audit_recording.specs.Endings.Worked.{asked_first}
 use Rattle.audit_recording.specs.Session.Beside.Mark.{Begins, Joins}
@@ -101,7 +100,6 @@ abbrev pub worked_noticed : Noticed
 worked_noticed = record {
   last = 4;
   events = Loses (unread_at 4 3000000000) ∷ Finds 3 0 ∷ Finds 1 0 ∷ Asks client.address 2 ∷ Awaits (unread_at 1 1000000000) ∷ [];
-  seen = checked 3 client.address (Some true) ∷ checked 2 client.address (Some true) ∷ [];
   gone = [];
   times = 3000000000 ∷ 2000000000 ∷ [];
   copies = [];

@@ -27,7 +27,7 @@ pub struct Doubted {
     pub copied_from: Option<u64>,
     /// The frame of a datagram that was received with an error.
     pub damaged: Option<u64>,
-    /// The frame of a datagram with a wrong checksum, whose sender also sent a right one.
+    /// The frame of a datagram with a wrong checksum, or of one that was left out for it.
     pub discarded: Option<u64>,
     /// The frame of what was left out, and may be of it by its time.
     pub left_out: Option<u64>,

@@ -1,13 +1,14 @@
 //! Laws on the frames of what was seen at a point. Each is the contract of a function that does nothing.
 
 ghost use Rattle.std.specs.Prelude.{◌≡◌, ◌∷◌, [], ℕ, List, None, Some, drop, false, option_map, true};
+ghost use Rattle.net_udp.specs.declared.frames.checksum.Checksum.TheVariants.{Absent, Partial, Right, Wrong};
 ghost use Rattle.audit_flows.specs.{Transfer};
 ghost use Rattle.audit_flows.specs.Transfers.{asked_twice, client, placed};
-ghost use Rattle.audit_flows.specs.Transfers.Worked.{acked_late, error_of, errors, passes, server, stranger, told_another};
+ghost use Rattle.audit_flows.specs.Transfers.Worked.{acked_late, error_of, errors, passes, server, stranger, told_another, two_clients};
 ghost use Rattle.audit_recording.specs.Blame.Facts.{blamed_of, has_gone_on};
-ghost use Rattle.audit_recording.specs.Blame.Frames.{Carried, framed_after, seen_as};
-ghost use Rattle.audit_recording.specs.Blame.Kept.{IsTrailBetween, IsTrailOf, is_about_it};
-ghost use Rattle.audit_recording.specs.Blame.Worked.{frame_of, in_even_frames};
+ghost use Rattle.audit_recording.specs.Blame.Frames.{Carried, framed, framed_after, seen_as};
+ghost use Rattle.audit_recording.specs.Blame.Kept.{IsTrailBetween, IsTrailOf, first_frame, is_about_it, is_spoilt};
+ghost use Rattle.audit_recording.specs.Blame.Worked.{frame_of, in_even_frames, with_checksums};
 ghost use Rattle.audit_recording.specs.declared.blame.trail.Trail.{Trail};
 ghost use Rattle.audit_recording.specs.declared.judges.judging.Judging.{Judging};
 ghost use Rattle.audit_recording.specs.declared.rows.row.Point.{Point};
@@ -56,4 +57,13 @@ pub fn worked_going_on()
     ensures before { has_gone_on first_transfer (placed [] (drop 1 told_another)) ≡ false }
     ensures ack { has_gone_on first_transfer (placed [] told_another) ≡ true }
     ensures error { has_gone_on first_transfer (placed [] (passes 4 client server (error_of 3) ∷ drop 1 told_another)) ≡ true }
+{}
+
+/// Worked example: of the same datagrams the checksums of frame 2 are right, frame 4 has none, that of frame 6 was left to its sender's
+/// network card, and those of frames 8 and 10 are wrong: frame 8 is the first of the transfer with a wrong one. What another client sends
+/// with a wrong one counts for nothing, but what a stranger sends to the server counts.
+pub fn worked_spoilt()
+    ensures first { first_frame (is_spoilt 0) (framed [] (with_checksums (Wrong ∷ Wrong ∷ Partial ∷ Absent ∷ Right ∷ []) (in_even_frames asked_twice))) ≡ Some 8 }
+    ensures none { first_frame (is_spoilt 0) (framed [] (with_checksums (Right ∷ Right ∷ Partial ∷ Absent ∷ Right ∷ []) (in_even_frames asked_twice))) ≡ None }
+    ensures others { first_frame (is_spoilt 0) (framed [] (with_checksums (Right ∷ Wrong ∷ Wrong ∷ Right ∷ Right ∷ Right ∷ Wrong ∷ []) (in_even_frames two_clients))) ≡ Some 14 }
 {}

@@ -4,9 +4,7 @@ ghost use Rattle.std.specs.Prelude.{◌≡◌, ◌∷◌, ℕ, List, [], None, S
 ghost use Rattle.std.specs.List.{list_any};
 ghost use Rattle.audit_flows.specs.Lines.{Placed};
 ghost use Rattle.audit_flows.specs.Transfers.Doubts.{is_doubtful};
-ghost use Rattle.audit_flows.specs.{V4};
 ghost use Rattle.audit_recording.specs.Reasons.{Blamed, Doubted};
-ghost use Rattle.audit_recording.specs.Reasons.Spoilt.{checked, first_spoilt};
 ghost use Rattle.audit_recording.specs.Reasons.Twice.{are_twice, worked_sent};
 ghost use Rattle.audit_recording.specs.declared.blame.reason.Reason.TheVariants.{Late, Lost, OneWay, Twice};
 ghost use Rattle.audit_recording.specs.Reasons.Listed.{IsBlamedAt, is_of_division, missing_reasons, reasons_of, worked_blamed, worked_doubted};
@@ -40,12 +38,4 @@ pub fn worked_twice()
     ensures between { are_twice (worked_sent 3 ∷ worked_sent 3 ∷ worked_sent 2 ∷ worked_sent 1 ∷ worked_sent 1 ∷ []) ≡ false }
     ensures turns { are_twice (worked_sent 2 ∷ worked_sent 1 ∷ worked_sent 2 ∷ worked_sent 1 ∷ []) ≡ false }
     ensures none { are_twice [] ≡ false }
-{}
-
-/// The first of two with a wrong checksum is the one in frame 5; the checksums of frame 3 are not there, and those of frame 2 are right.
-pub fn worked_spoilt()
-    ensures first { first_spoilt (checked 7 (V4 (192 ∷ 0 ∷ 2 ∷ 1 ∷ [])) (Some false) ∷ checked 5 (V4 (192 ∷ 0 ∷ 2 ∷ 2 ∷ [])) (Some false)
-        ∷ checked 3 (V4 (192 ∷ 0 ∷ 2 ∷ 1 ∷ [])) None ∷ checked 2 (V4 (192 ∷ 0 ∷ 2 ∷ 1 ∷ [])) (Some true) ∷ [])
-        ≡ Some (record { frame = 5; host = V4 (192 ∷ 0 ∷ 2 ∷ 2 ∷ []) }) }
-    ensures none { first_spoilt (checked 2 (V4 (192 ∷ 0 ∷ 2 ∷ 1 ∷ [])) (Some true) ∷ []) ≡ None }
 {}

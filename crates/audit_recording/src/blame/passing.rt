@@ -17,8 +17,9 @@ pub struct Passing<'a> {
     pub is_doubtful: bool,
     /// Whether it was received with an error of its link, so that its host discarded it.
     pub has_error: bool,
-    /// Whether its checksums are right, where they are there (RFC 768; RFC 791, section 3.1).
-    pub is_intact: Option<bool>,
+    /// Whether its checksum or that of its IP header is wrong, so that its host may have discarded it (RFC 1122, sections 3.2.1.2
+    /// and 4.1.3.4). One that was left to its sender's network card is not.
+    pub has_wrong_checksum: bool,
     /// Where it came from.
     pub source: Endpoint,
     /// Where it went.

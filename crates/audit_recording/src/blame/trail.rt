@@ -8,18 +8,19 @@ ghost use Rattle.audit_flows.specs.Transfers.{IsDoubtedAfter, comes_of_earlier, 
 ghost use Rattle.audit_recording.specs.Between.{IsBetweenFoundBy, between_capture, server_or_asked, sides_of};
 ghost use Rattle.audit_recording.specs.Blame.Facts.{blamed_as, blamed_of, has_gone_on, is_for_server, refused_between, refused_in};
 ghost use Rattle.audit_recording.specs.Blame.Frames.{Carried, Framed, framed, framed_after, view_of, whole_of};
-ghost use Rattle.audit_recording.specs.Blame.Kept.{IsNoted, IsPassing, IsSameBut, IsTrailBetween, IsTrailOf, is_about_it, sent_of, with_spoilt};
-ghost use Rattle.audit_recording.specs.Blame.Spoilt.{intact_in};
+ghost use Rattle.audit_recording.specs.Blame.Kept.{IsNoted, IsPassing, IsTrailBetween, IsTrailOf, is_about_it, sent_of};
 ghost use Rattle.audit_recording.specs.Reasons.Twice.{IsTwiceAfter, Sent, are_twice, sent};
 ghost use Rattle.audit_recording.specs.Endings.Undelivered.{undelivered_of};
 ghost use Rattle.audit_recording.specs.Endings.Pace.{IsPaceIn};
 ghost use Rattle.audit_recording.specs.Endings.Told.{IsEnding, last_of};
 ghost use Rattle.audit_recording.specs.Judges.Kept.{IsWatching};
 ghost use Rattle.audit_recording.specs.Judges.Points.{points_of, rollover_of};
+ghost use Rattle.audit_recording.specs.Losses.Kept.{lesser};
 ghost use Rattle.audit_recording.specs.declared.judges.judging.Judging.{Judging as JudgingKind};
 ghost use Rattle.audit_recording.specs.declared.rows.row.Point.{Point as PointKind};
-ghost use Rattle.audit_recording.specs.Session.Beside.{IsMarkedBy, Mark, leaving_out};
-ghost use Rattle.audit_recording.specs.Session.Intact.{discarding};
+ghost use Rattle.audit_recording.specs.Session.Beside.{leaving_out};
+ghost use Rattle.audit_recording.specs.Session.Discards.{discarding};
+ghost use Rattle.audit_recording.specs.Session.Heard.{is_between_ends};
 ghost use Rattle.audit_views.specs.Parties.{host_name};
 ghost use Rattle.audit_views.specs.Views.{IsFoundBy, client_capture, client_header, server_capture, server_header};
 ghost use Rattle.law_tap.specs.{AreApart};
@@ -28,12 +29,11 @@ use crate::blame::blame::{Blame, Blamed};
 use crate::blame::closing::{Closing, Word};
 use crate::blame::doubted::Doubted;
 use crate::blame::ending::{Ending, seconds_since};
-use crate::blame::missing::Missing;
+use crate::blame::missing::{Missing, least};
 use crate::blame::named::Named;
 use crate::blame::pace::Pace;
 use crate::blame::passed::Passed;
 use crate::blame::passing::Passing;
-use crate::blame::spoilt::{Spoilt, first_spoilt};
 use crate::blame::stop::sender_at;
 use crate::blame::told::{refused_between, refused_in};
 use crate::blame::twice::Twice;
@@ -80,13 +80,11 @@ pub struct Trail {
     copied_from: Option<u64>,
     /// The frame of a datagram that was received with an error.
     damaged: Option<u64>,
-    /// The first spoilt datagram of its client.
-    from_client: Option<Spoilt>,
-    /// The first spoilt datagram to its client.
-    to_client: Option<Spoilt>,
-    /// The frame of a datagram that its receiver discarded for its checksum.
+    /// The frame of a datagram with a wrong checksum.
+    spoilt: Option<u64>,
+    /// The frame of a datagram that was left out as discarded, and may be of it.
     discarded: Option<u64>,
-    /// The last datagram between its ends that did not arrive.
+    /// The last datagram between its ends that did not arrive, once it is handed out.
     undelivered: Option<Undelivered>,
     /// How it ended, as far as it was read.
     closing: Closing,
@@ -111,8 +109,7 @@ impl Drop for Trail {
             twice: _,
             copied_from: _,
             damaged: _,
-            from_client: _,
-            to_client: _,
+            spoilt: _,
             discarded: _,
             undelivered: _,
             closing: _,
@@ -150,8 +147,7 @@ impl Trail {
             twice: Twice::new(alloc),
             copied_from: None,
             damaged: None,
-            from_client: None,
-            to_client: None,
+            spoilt: None,
             discarded: None,
             undelivered: None,
             closing: Closing::new(alloc),
@@ -169,7 +165,6 @@ impl Trail {
     ) -> Result<(), AllocError>
         ensures stands { (judging : JudgingKind) (x : Transfer) (named : List ℕ) (c : Carried) (carried : List Carried)
             → IsTrailOf self.old judging x named carried → IsPassing passing.now c
-            → passing.now.is_intact ≡ intact_in (framed_after named carried c)
             → found.now.place ≡ (framed_after named carried c).placed.place
             → found.now.doubts ≡ doubts_of (framed_after named carried c).placed (whole_of named carried)
             → is_about_it x.number (framed_after named carried c) ≡ true
@@ -194,6 +189,7 @@ impl Trail {
         self.note_place(&found.place, passing)?;
         self.copied_from = first(self.copied_from, passing.is_doubtful, passing.frame);
         self.damaged = first(self.damaged, passing.has_error, passing.frame);
+        self.spoilt = first(self.spoilt, passing.has_wrong_checksum, passing.frame);
         self.options = self.options.with(passing.payload);
         self.ends.note(
             &found.place,
@@ -242,7 +238,7 @@ impl Trail {
         self.last = passing.frame;
         self.last_time = self.last_time.max(passing.time.unwrap_or(0));
         self.has_gone_on = self.goes_on(passing) || self.has_gone_on;
-        self.note_way(passing);
+        self.is_answered = self.comes_in(passing) || self.is_answered;
         self.twice.note(passing)
     }
 
@@ -253,32 +249,16 @@ impl Trail {
         passing.source == self.transfer.client && is_for_server(passing.payload)
     }
 
-    /// Notes whether a datagram came to its client, and the first spoilt one on each way.
-    fn note_way(&mut self, passing: &Passing<'_>)
-        ensures is_answered { self.new.is_answered ≡ (same_endpoint passing.now.target self.old.transfer.client || self.old.is_answered) }
-        ensures from_client { self.new.from_client ≡ with_spoilt (not (same_endpoint passing.now.target self.old.transfer.client)) passing.now self.old.from_client }
-        ensures to_client { self.new.to_client ≡ with_spoilt (same_endpoint passing.now.target self.old.transfer.client) passing.now self.old.to_client }
-        ensures others { IsSameBut self.old self.new }
+    /// Whether a datagram came to its client.
+    fn comes_in(&self, passing: &Passing<'_>) -> bool
+        ensures { result ≡ same_endpoint passing.now.target self.now.transfer.client }
     {
-        if passing.target == self.transfer.client {
-            self.is_answered = true;
-            self.to_client = first_spoilt(self.to_client, passing);
-        } else {
-            self.from_client = first_spoilt(self.from_client, passing);
-        }
+        passing.target == self.transfer.client
     }
 
-    /// The first spoilt datagram of its client, and the first to its client.
-    pub fn spoilt(&self) -> (Option<Spoilt>, Option<Spoilt>)
-        ensures from { result.0 ≡ self.now.from_client }
-        ensures to { result.1 ≡ self.now.to_client }
-    {
-        (self.from_client, self.to_client)
-    }
-
-    /// Notes that its receiver discarded a spoilt datagram: its host's hardware makes no checksums after the recording.
-    pub fn discard(&mut self, spoilt: Spoilt)
-        ensures is { self.new ≡ discarding (Some spoilt.frame) self.old }
+    /// Notes that a datagram in this frame was left out as discarded, which may be of it: the first one is kept.
+    pub fn discard(&mut self, frame: u64)
+        ensures is { self.new ≡ discarding (Some frame) self.old }
         ensures blame { self.new.blame ≡ self.old.blame }
         ensures stands { (judging : JudgingKind) (x : Transfer) (named : List ℕ) (carried : List Carried) → IsTrailOf self.old judging x named carried
             → IsTrailOf self.new judging x named carried }
@@ -286,10 +266,7 @@ impl Trail {
         ensures request { self.new.request ≡ self.old.request }
         ensures left_out { self.new.left_out ≡ self.old.left_out }
     {
-        self.discarded = match self.discarded {
-            Some(earlier) => Some(earlier.min(spoilt.frame)),
-            None => Some(spoilt.frame),
-        };
+        self.discarded = least(self.discarded, Some(frame));
     }
 
     /// Notes that a datagram at its client's endpoint was left out, whose time is within the transfer's: the first one is kept.
@@ -305,26 +282,22 @@ impl Trail {
         self.left_out = first(self.left_out, true, frame);
     }
 
-    /// Notes that a datagram did not arrive, if it was between its client and its server, or whom it asked: the last one is kept.
-    pub fn note_undelivered(&mut self, undelivered: Undelivered)
-        ensures marked { (n : ℕ) (marks : List Mark) → IsMarkedBy n marks self.old → IsMarkedBy n marks self.new }
-        ensures blame { self.new.blame ≡ self.old.blame }
-        ensures stands { (judging : JudgingKind) (x : Transfer) (named : List ℕ) (carried : List Carried) → IsTrailOf self.old judging x named carried
-            → IsTrailOf self.new judging x named carried }
-        ensures first { self.new.first ≡ self.old.first }
-        ensures request { self.new.request ≡ self.old.request }
-        ensures left_out { self.new.left_out ≡ self.old.left_out }
+    /// Keeps what is told of its last datagram that did not arrive, where one did not.
+    pub fn tell_undelivered(&mut self, undelivered: Option<Undelivered>)
+        ensures { self.new ≡ record self.old { undelivered = undelivered } }
     {
-        self.undelivered = match self.is_between_ends(&undelivered) {
-            true => Some(undelivered),
-            false => self.undelivered,
-        };
+        self.undelivered = undelivered;
     }
 
-    /// Whether the datagram was between its client and its server, or whom it asked.
-    fn is_between_ends(&self, undelivered: &Undelivered) -> bool {
+    /// Whether a datagram was between its client and its server, as far as it is known who that is, or whom it asked.
+    pub fn is_between_ends(&self, undelivered: &Undelivered) -> bool
+        ensures { (judging : JudgingKind) (x : Transfer) (named : List ℕ) (carried : List Carried) → IsTrailOf self.now judging x named carried
+            → result ≡ is_between_ends x (whole_of named carried) undelivered.now }
+    {
         let peer = self.transfer.peer(undelivered.source, undelivered.target);
-        peer == self.server() || peer == self.transfer.asked
+        let is_server = peer == self.server();
+        let is_asked = peer == self.transfer.asked;
+        is_server || is_asked
     }
 
     /// The end that a datagram of the other one did not reach, after which none of the two sent another, and what tells it.
@@ -385,7 +358,7 @@ impl Trail {
         ensures missing { result.missing ≡ missing }
         ensures is_twice { (judging : JudgingKind) (x : Transfer) (named : List ℕ) (carried : List Carried) → IsTrailOf self.now judging x named carried
             → result.is_twice ≡ are_twice (map sent_of (view_of PointKind.Client x.number named carried)) }
-        ensures discarded { result.discarded ≡ self.now.discarded }
+        ensures discarded { result.discarded ≡ lesser self.now.discarded self.now.spoilt }
         ensures begins { result.begins ≡ self.now.first }
         ensures is_one_way { result.is_one_way ≡ not self.now.is_answered }
         ensures copied_from { result.copied_from ≡ self.now.copied_from }
@@ -399,7 +372,7 @@ impl Trail {
             is_one_way: !self.is_answered,
             copied_from: self.copied_from,
             damaged: self.damaged,
-            discarded: self.discarded,
+            discarded: least(self.discarded, self.spoilt),
             left_out: self.left_out,
             missing,
         }

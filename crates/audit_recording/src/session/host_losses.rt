@@ -4,8 +4,9 @@ ghost use Rattle.std.specs.Prelude.{◌≡◌, ◌<◌, ◌≤◌, ℕ, IfSome, 
 ghost use Rattle.std.specs.BTreeMap.{get};
 ghost use Rattle.std.specs.Ordering.{nat_cmp};
 ghost use Rattle.audit_recording.specs.Losses.Noted.{IsFirst, IsTold, Since, is_soon};
-ghost use Rattle.audit_recording.specs.Losses.Kept.{HasAskedIn, HasLost, HasWaited, IsKept, IsNoted, lesser, waits_at};
+ghost use Rattle.audit_recording.specs.Losses.Kept.{HasAskedIn, HasLost, HasWaited, IsKept, IsNoted, waits_at};
 
+use crate::blame::least;
 use crate::session::losses::{SILENCE, Stretch};
 use std::alloc::{AllocError, Global};
 use std::collections::BTreeMap;
@@ -142,15 +143,4 @@ fn is_soon(stretch: &Stretch, frame: u64, time: u64) -> bool
     ensures { result ≡ is_soon stretch.now frame time }
 {
     frame <= stretch.last || time <= stretch.last_time.saturating_add(SILENCE)
-}
-
-/// The lesser of two numbers, where there is one.
-pub(crate) fn least(one: Option<u64>, other: Option<u64>) -> Option<u64>
-    ensures { result ≡ lesser one other }
-{
-    match (one, other) {
-        (Some(one), Some(other)) => Some(one.min(other)),
-        (one, None) => one,
-        (None, other) => other,
-    }
 }

@@ -8,14 +8,11 @@ ghost use Rattle.net_udp.specs.Fragments.{content_of};
 ghost use Rattle.net_udp.specs.Frames.{acknowledgement};
 ghost use Rattle.net_udp.specs.Recording.{IsDatagram, IsHistory, Step, begun_step, last_bytes, last_part, waiting, worked_content};
 ghost use Rattle.net_udp.specs.declared.fragments.content.Content.{Content};
-ghost use Rattle.net_udp.specs.declared.frames.checksum.Checksum.TheVariants.{Absent, Right, Wrong};
 ghost use Rattle.net_udp.specs.declared.frames.unread.UnreadHeader.TheVariants.{MacSec};
 ghost use Rattle.net_udp.specs.declared.recording.fate.Datagram.{Datagram};
 ghost use Rattle.audit_flows.specs.{Address, V4};
-ghost use Rattle.audit_flows.specs.Transfers.{ack_of, asked_twice, client, placed, read_of};
-ghost use Rattle.audit_flows.specs.Transfers.Worked.{server, stranger, two_clients};
-ghost use Rattle.audit_views.specs.Views.{first_transfer};
-ghost use Rattle.audit_recording.specs.declared.rows.row.Point.{Point as PointKind};
+ghost use Rattle.audit_flows.specs.Transfers.{ack_of, client, placed, read_of, service};
+ghost use Rattle.audit_flows.specs.Transfers.Worked.{server, two_clients};
 ghost use Rattle.tftp_packet.specs.{Client};
 ghost use Rattle.audit_recording.specs.declared.session.losses.Stretch.{Stretch};
 ghost use Rattle.audit_recording.specs.Losses.Noted.{Event, IsMissingOf, MayMiss, Unread, is_of_host, is_of_none, is_soon, lost_by, unread, waiting_at};
@@ -24,15 +21,13 @@ ghost use Rattle.audit_recording.specs.Reasons.Clock.{HaveReached};
 ghost use Rattle.audit_recording.specs.Reasons.Unplaced.{after, latest_at, newest_of, worked_end};
 ghost use Rattle.audit_recording.specs.Reasons.Unplaced.Event.{Ends, Opens, Passes};
 ghost use Rattle.audit_recording.specs.Audit.Passed.{HasPassed};
-ghost use Rattle.audit_recording.specs.Blame.Frames.{Carried, datagrams_of, view_of};
-ghost use Rattle.audit_recording.specs.Blame.Spoilt.{spoilt_from, spoilt_to};
-ghost use Rattle.audit_recording.specs.Blame.Worked.{in_even_frames, with_checksums};
+ghost use Rattle.audit_recording.specs.Blame.Frames.{Carried, datagrams_of};
 ghost use Rattle.audit_flows.specs.Lines.{silence};
-ghost use Rattle.audit_recording.specs.Session.HandedOut.{discarded_from, discarded_to};
 ghost use Rattle.audit_recording.specs.Endings.Worked.{asked_first};
 ghost use Rattle.audit_recording.specs.Session.Beside.{apart_at, asked_next, discarded_beside, gone_at, left_out_of, worked_marks};
 ghost use Rattle.audit_recording.specs.Session.Beside.Mark.{Begins};
 ghost use Rattle.audit_recording.specs.Session.Headed.{is_recording};
+ghost use Rattle.audit_recording.specs.Session.Heard.{told_of, undelivered_in};
 ghost use Rattle.audit_recording.specs.Session.Lines.{begun_told, behind_told, behind_words, dropped_lines, fault_lines, left_out_lines, lines_of, pair_lines, ports_text};
 ghost use Rattle.audit_recording.specs.Session.Hidden.{hidden_frames};
 ghost use Rattle.audit_recording.specs.Session.Noted.{AreUpTo, Noticed, frames_in, giving_up, going_back, told_in};
@@ -43,7 +38,7 @@ ghost use Rattle.audit_recording.specs.Session.Strays.{asked_ports, begun_pairs,
 ghost use Rattle.audit_recording.specs.Session.Told.{AreApart, AreEachOnce, AreEarlier, AreOfOneKind, AreOnce, IsLostAlone, nothing_told};
 ghost use Rattle.audit_recording.specs.Session.Texts.{frame_text, heading_text, ordinal};
 ghost use Rattle.audit_recording.specs.Session.Worked.{ack_carried, at_second, begun_noticed, block_1, frame_at, many_strays, request, request_bytes, request_carried, request_packet, stray_at, told_noticed, told_steps, torn_noticed, torn_steps, worked_hidden, worked_noticed, worked_steps, worked_strays};
-ghost use Rattle.audit_recording.specs.Session.Intact.{before_opening, discarded_of, makes_checksums, newest_at, worked_gone, worked_host, worked_seen};
+ghost use Rattle.audit_recording.specs.Session.Discards.{before_opening, newest_at, worked_gone};
 
 /// A frame of other hosts that is lost, or that waits, makes nothing more missing of a client's host.
 pub fn what_others_lose_is_not_missing()
@@ -112,16 +107,6 @@ pub fn worked_unplaced()
     ensures goes_on { newest_of (worked_end 2000) (Ends (worked_end 2000) 3 ∷ Opens (worked_end 2000) 5 ∷ Opens (worked_end 2000) 3 ∷ []) ≡ Some 5 }
 {}
 
-/// Host 1 has sent a datagram with right checksums, so that its wrong one in frame 5 was discarded. Host 2 has not, and its wrong ones
-/// count for nothing; nor does one without checksums tell anything.
-pub fn worked_intact()
-    ensures right { makes_checksums worked_seen (worked_host 1) ≡ true }
-    ensures wrong { makes_checksums worked_seen (worked_host 2) ≡ false }
-    ensures absent { makes_checksums worked_seen (worked_host 3) ≡ false }
-    ensures discarded { discarded_of worked_seen (Some (record { frame = 5; host = worked_host 1 })) ≡ Some 5 }
-    ensures sent { discarded_of worked_seen (Some (record { frame = 3; host = worked_host 2 })) ≡ None }
-{}
-
 /// What is of no client's line may have been of a transfer, if it came before its request and has a later time, or if it passed at most
 /// 300 s after its last datagram; but not once its client had opened another. Of those that were discarded the newest before the request
 /// counts, which came at most 300 s before, and each that came since, the first of all.
@@ -139,21 +124,14 @@ pub fn worked_beside()
     ensures gone_of_next { discarded_beside 3 (gone_at 9 31 ∷ asked_next ∷ worked_marks) ≡ Some 9 }
 {}
 
-/// Worked example: a read of one byte whose client asks twice, and which a stranger sends a block, in frames 2, 4, 6, 8 and 10. The
-/// checksums of frame 2 are right, frame 4 has none, and those of the others are wrong. The first wrong one from the client is in frame
-/// 10, and it was discarded, since the client's host makes its checksums; the first to the client is in frame 6, and nothing tells that it
-/// was discarded, since its host has sent none with right checksums. Where frame 6 is right, frame 8 is the first to the client. What
-/// another client sends with a wrong checksum, or what a stranger sends to the server, counts for nothing.
-pub fn worked_handed_out()
-    ensures from { spoilt_from first_transfer (view_of PointKind.Client 0 [] (with_checksums (Wrong ∷ Wrong ∷ Wrong ∷ Absent ∷ Right ∷ []) (in_even_frames asked_twice)))
-        ≡ Some (record { frame = 10; host = client.address }) }
-    ensures to { spoilt_to first_transfer (view_of PointKind.Client 0 [] (with_checksums (Wrong ∷ Wrong ∷ Wrong ∷ Absent ∷ Right ∷ []) (in_even_frames asked_twice)))
-        ≡ Some (record { frame = 6; host = server.address }) }
-    ensures later { spoilt_to first_transfer (view_of PointKind.Client 0 [] (with_checksums (Wrong ∷ Wrong ∷ Right ∷ Absent ∷ Right ∷ []) (in_even_frames asked_twice)))
-        ≡ Some (record { frame = 8; host = stranger.address }) }
-    ensures discarded { discarded_from first_transfer [] (with_checksums (Wrong ∷ Wrong ∷ Wrong ∷ Absent ∷ Right ∷ []) (in_even_frames asked_twice)) ≡ Some 10 }
-    ensures untold { discarded_to first_transfer [] (with_checksums (Wrong ∷ Wrong ∷ Wrong ∷ Absent ∷ Right ∷ []) (in_even_frames asked_twice)) ≡ None }
-    ensures others { spoilt_from first_transfer (view_of PointKind.Client 0 [] (with_checksums (Right ∷ Wrong ∷ Wrong ∷ Right ∷ Wrong ∷ Right ∷ Wrong ∷ []) (in_even_frames two_clients))) ≡ None }
+/// The request of transfer 0 came in frame 2. What a later frame tells of it, or of what the asked port sends back, is of that transfer,
+/// and the newest counts; not what was told before, and not what is told of a port from which nothing came.
+pub fn worked_undelivered()
+    ensures there { undelivered_in asked_first [] (request_carried ∷ []) (told_of 3 client service ∷ []) ≡ Some (told_of 3 client service) }
+    ensures back { undelivered_in asked_first [] (request_carried ∷ []) (told_of 3 service client ∷ []) ≡ Some (told_of 3 service client) }
+    ensures newest { undelivered_in asked_first [] (request_carried ∷ []) (told_of 5 service client ∷ told_of 3 client service ∷ []) ≡ Some (told_of 5 service client) }
+    ensures before { undelivered_in asked_first [] (request_carried ∷ []) (told_of 1 client service ∷ []) ≡ None }
+    ensures elsewhere { undelivered_in asked_first [] (request_carried ∷ []) (told_of 3 client server ∷ []) ≡ None }
 {}
 
 /// What was discarded in frame 7 at second 10 may have been of a transfer that is opened up to second 310, and of none later.

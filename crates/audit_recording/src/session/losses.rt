@@ -7,8 +7,8 @@ ghost use Rattle.audit_recording.specs.Losses.Noted.Event.{Asks, Finds, GivesUp,
 ghost use Rattle.audit_recording.specs.Losses.Kept.{AreLosses, Changes, HasAskedIn, HasLost, HasWaited, LosesMore, StandFor, host_end, kept_of, of_host, waits_at};
 ghost use Rattle.audit_recording.specs.Session.Over.{IsWaitingAt};
 
-use crate::blame::Missing;
-use crate::session::host_losses::{HostLosses, least};
+use crate::blame::{Missing, least};
+use crate::session::host_losses::HostLosses;
 use audit_flows::lines::{Address, Endpoint};
 use audit_views::parties::address_of;
 use std::alloc::{AllocError, Global};

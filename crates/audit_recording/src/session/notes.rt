@@ -19,8 +19,8 @@ use crate::session::asked::note_asked;
 use crate::session::begun::Begun;
 use crate::session::behind::Behind;
 use crate::session::clock::Clock;
+use crate::session::discards::Discards;
 use crate::session::frames::put_numbers;
-use crate::session::intact::IntactHosts;
 use crate::session::kinds::Kinds;
 use crate::session::losses::{Losses, SILENCE, Stretch, WAIT};
 use crate::session::missing::{fault_line, put_dropped};
@@ -39,8 +39,8 @@ pub struct Notes {
     behind: Behind,
     /// Those that are lost, by their hosts.
     losses: Losses,
-    /// The hosts that make their checksums.
-    pub(crate) intact: IntactHosts,
+    /// Datagrams that their hosts discarded.
+    pub(crate) discards: Discards,
     /// Datagrams of no transfer that look like one that goes on.
     begun: Begun,
     /// Ports at which one of these looks like a request.
@@ -61,7 +61,7 @@ impl Drop for Notes {
             kinds: _,
             behind: _,
             losses: _,
-            intact: _,
+            discards: _,
             begun: _,
             asked: _,
             fault: _,
@@ -82,7 +82,7 @@ impl Notes {
             kinds: Kinds::new(alloc),
             behind: Behind::new(alloc),
             losses: Losses::new(alloc),
-            intact: IntactHosts::new(alloc),
+            discards: Discards::new(alloc),
             begun: Begun::new(alloc),
             asked: Vec::new(alloc),
             fault: None,
@@ -92,12 +92,11 @@ impl Notes {
         }
     }
 
-    /// Notes a datagram's time and checksum. After an error they stand for nothing, here and below.
+    /// Notes a datagram's time. After an error they stand for nothing, here and below.
     pub(crate) fn pass(&mut self, passing: &Passing<'_>) -> Result<(), AllocError>
         ensures stands { (s : Noticed) → AreNotesOf self.old s → OnOk result (AreNotesOf self.new (passing_by passing.now s)) }
         ensures fault { self.new.fault ≡ self.old.fault }
     {
-        self.intact.note(passing)?;
         match passing.time {
             Some(time) => self.pass_at(passing.frame, time),
             None => Ok(()),
@@ -110,7 +109,7 @@ impl Notes {
         ensures kinds { (times : List ℕ) (t : Told) → IsClockAfter self.old.clock times → AreKindsOf self.old.kinds t
             → OnOk result (AreKindsOf self.new.kinds (record t { backwards = going_back frame (Some time) times t.backwards })) }
         ensures losses { self.new.losses ≡ self.old.losses }
-        ensures intact { self.new.intact ≡ self.old.intact }
+        ensures discards { self.new.discards ≡ self.old.discards }
         ensures behind { self.new.behind ≡ self.old.behind }
         ensures begun { self.new.begun ≡ self.old.begun }
         ensures asked { self.new.asked ≡ self.old.asked }
@@ -258,7 +257,7 @@ impl Notes {
             → OnOk result (AreNotesOf self.new (going (record { source = source; target = target; frame = frame; time = time }) s)) }
         ensures fault { self.new.fault ≡ self.old.fault }
     {
-        self.intact.discard(source, target, frame, time)?;
+        self.discards.note(source, target, frame, time)?;
         self.kinds.discarded.add(frame)
     }
 

@@ -7,7 +7,7 @@ ghost use Rattle.std.specs.Ordering.{nat_cmp};
 ghost use Rattle.net_pcap.specs.{FaultKind as Kind, PcapFault as Fault};
 ghost use Rattle.net_streams.specs.{Standing};
 ghost use Rattle.net_udp.specs.Frames.{IsSound};
-ghost use Rattle.net_udp.specs.Recording.{IsFateOf, StandsFor, Step, checksum_told, standing_of};
+ghost use Rattle.net_udp.specs.Recording.{IsFateOf, StandsFor, Step, standing_of};
 ghost use Rattle.net_udp.specs.{Fate as Became};
 ghost use Rattle.net_udp.specs.declared.recording.fate.Datagram.{Datagram as Given};
 ghost use Rattle.audit_flows.specs.Lines.{same_address};
@@ -15,8 +15,7 @@ ghost use Rattle.audit_flows.specs.{Attributed as Found, Opens};
 ghost use Rattle.audit_recording.specs.Audit.{AuditsAfter};
 ghost use Rattle.audit_recording.specs.Audit.Audited.{IsAttributed, IsOfEvent};
 ghost use Rattle.audit_recording.specs.Blame.Frames.{Carried, datagrams_of, framed_after, whole_of};
-ghost use Rattle.audit_recording.specs.Blame.Kept.{IsPassing};
-ghost use Rattle.audit_recording.specs.Blame.Spoilt.{all_checked, intact_at, intact_by, intact_in};
+ghost use Rattle.audit_recording.specs.Blame.Kept.{IsPassing, is_wrong};
 ghost use Rattle.audit_recording.specs.Judges.{IsWatching, WereOpened, is_among, opened};
 ghost use Rattle.audit_recording.specs.declared.judges.judging.Judging.{Judging as JudgingKind};
 ghost use Rattle.audit_views.specs.Parties.{host_name};
@@ -24,9 +23,9 @@ ghost use Rattle.audit_recording.specs.Reasons.Clock.{IsClockAfter};
 ghost use Rattle.audit_recording.specs.Losses.Noted.{IsAsked, IsFirst, IsMissingOf, IsTold, Since};
 ghost use Rattle.audit_recording.specs.Session.Noted.{AreNotesOf, Noticed, nothing_noticed, stretch_of, with_time};
 ghost use Rattle.audit_recording.specs.Session.Recording.{AddsOne, IsCarriedBy, IsNoticedOf, joining, marks_with, placing, setting_aside, straying};
-ghost use Rattle.audit_recording.specs.Session.Beside.{AreMarksKept, Mark, gone_of};
-ghost use Rattle.audit_recording.specs.Session.HandedOut.{IsHandedOut, IsToldBeside};
-ghost use Rattle.audit_recording.specs.Session.Kept.{AreJudgesLeft, GivesNone, IsSessionAfter, IsSessionOf, ReadsOn};
+ghost use Rattle.audit_recording.specs.Session.Beside.{AreMarksKept, IsMarkedBy, Mark, gone_of};
+ghost use Rattle.audit_recording.specs.Session.Heard.{IsUndeliveredOf};
+ghost use Rattle.audit_recording.specs.Session.Kept.{AddsFrame, AreJudgesLeft, GivesNone, IsReadAfter, IsSessionAfter, IsSessionOf, ReadsOn};
 ghost use Rattle.audit_recording.specs.Session.Opened.{IsReadFaultOf};
 ghost use Rattle.audit_recording.specs.Session.Over.{IsOldestOver};
 ghost use Rattle.audit_recording.specs.Session.Strays.{stray_of};
@@ -39,9 +38,9 @@ use crate::judges::{Judging, Watched};
 use crate::session::fault::{ReadFault, TextFault};
 use crate::session::kept::Kept;
 use crate::session::notes::Notes;
-use crate::session::trails::{ask, discard, hand_over, note_undelivered};
+use crate::session::trails::{ask, discard, hand_over};
 use crate::session::unplaced::Unplaced;
-use audit_flows::lines::Place;
+use crate::session::unreached::{Unreached, hear};
 use audit_flows::transfers::{Attributed, AttributionFault};
 use audit_views::parties::party_of;
 use audit_views::views::Fed;
@@ -58,6 +57,7 @@ pub struct Session {
     audit: RecordingAudit<RingDelivered>,
     trails: BTreeMap<u64, Trail>,
     unplaced: Unplaced,
+    unreached: Unreached,
     /// What is to be told of the recording as a whole.
     pub notes: Notes,
     /// The datagrams of the transfers whose texts are wanted.
@@ -71,6 +71,7 @@ impl Drop for Session {
             audit: _,
             trails: _,
             unplaced: _,
+            unreached: _,
             notes: _,
             kept: _,
         } = self;
@@ -101,6 +102,7 @@ impl Session {
             audit: RecordingAudit::new(alloc, services, judging)?,
             trails: BTreeMap::new(alloc),
             unplaced: Unplaced::new(alloc),
+            unreached: Unreached::new(alloc),
             notes: Notes::new(alloc),
             kept: kept.anew(alloc),
         })
@@ -141,6 +143,42 @@ impl Session {
         ensures wanted { self.new.kept.wanted ≡ self.old.kept.wanted }
         ensures why { (file : Option (List ℕ)) → IfErr result (IsReadFaultOf file) }
     {
+        let goes_on = self.read(alloc, reader, recording, event)?;
+        if goes_on {
+            hear(&mut self.unreached, &self.trails, &self.unplaced, event)?;
+        }
+        Ok(goes_on)
+    }
+
+    /// The same, but what the frame tells of datagrams that did not arrive is not looked at.
+    fn read<R: Read>(
+        &mut self,
+        alloc: Global,
+        reader: &mut Latched<R>,
+        recording: &mut RecordingReader,
+        event: &mut Event,
+    ) -> Result<bool, ReadFault>
+        ensures goes_on { (named out bytes : List ℕ) (history : List Step) (carried : List Carried) (s : Noticed)
+            → StandsFor recording.old bytes history → IsReadAfter self.old named out history carried s
+            → (taken : List ℕ)
+            × Consumes (prepend_known recording.old.frames.pieces.ahead (R.remaining reader.old.0)) (prepend_known recording.new.frames.pieces.ahead (R.remaining reader.new.0)) taken
+            × ReadsOn (λ frames datagrams noticed. StandsFor recording.new (bytes ++ taken) frames
+            × (IsReadAfter self.new named out frames datagrams noticed × AddsFrame history carried event.new frames datagrams)) history carried s result }
+        ensures unreached { self.new.unreached ≡ self.old.unreached }
+        ensures wants { (named out bytes : List ℕ) (history : List Step) (carried : List Carried) (s : Noticed)
+            → StandsFor recording.old bytes history → IsReadAfter self.old named out history carried s
+            → OnErr result (AreJudgesLeft self.new.audit named out carried) }
+        ensures ends { result ≡ Ok false
+            → ((standing_of recording.new ≡ Standing.Over) × (self.new.notes ≡ self.old.notes))
+            ⊎ ((fault : Fault) × (standing_of recording.new ≡ Standing.Failed fault) × (self.new.notes.fault ≡ Some fault)) }
+        ensures at_end { standing_of recording.old ≡ Standing.Open → result ≡ Ok false → standing_of recording.new ≡ Standing.Over
+            → IsAtEnd (prepend_known recording.new.frames.pieces.ahead (R.remaining reader.new.0)) }
+        ensures goes { result ≡ Ok true → standing_of recording.new ≡ Standing.Open }
+        ensures fault { result ≡ Ok true → self.new.notes.fault ≡ self.old.notes.fault }
+        ensures judging { self.new.audit.judge.judging ≡ self.old.audit.judge.judging }
+        ensures wanted { self.new.kept.wanted ≡ self.old.kept.wanted }
+        ensures why { (file : Option (List ℕ)) → IfErr result (IsReadFaultOf file) }
+    {
         match self.audit.next_into(alloc, reader, recording, event) {
             Ok(NextFrame::End) => Ok(false),
             Ok(NextFrame::Nothing) => self.take(alloc, event, None),
@@ -157,6 +195,7 @@ impl Session {
         ensures audit { self.new.audit ≡ self.old.audit }
         ensures trails { self.new.trails ≡ self.old.trails }
         ensures unplaced { self.new.unplaced ≡ self.old.unplaced }
+        ensures unreached { self.new.unreached ≡ self.old.unreached }
         ensures over { result ≢ Ok true }
         ensures told { fault.kind ≢ Kind.Memory → result ≡ Ok false }
         ensures kept { self.new.kept ≡ self.old.kept }
@@ -206,6 +245,8 @@ impl Session {
             → AreTrailsKept self.old.trails self.old.audit.judge.judging named out carried
             → IsNoticedOf named history carried s → AreNotesOf self.old.notes s → AreMarksKept self.old.unplaced self.old.trails out s.beside
             → OnOk result (AreMarksKept self.new.unplaced self.new.trails out (marks_with a.place c (with_time c.time s.times) s.beside)) }
+        ensures unreached { self.new.unreached ≡ self.old.unreached }
+        ensures frame { event.new.frame ≡ event.old.frame }
         ensures goes { result ≢ Ok false }
         ensures fault { self.new.notes.fault ≡ self.old.notes.fault }
         ensures same_kept { found ≡ None → self.new.kept ≡ self.old.kept }
@@ -220,7 +261,6 @@ impl Session {
         self.notes.lose(alloc, event.old())?;
         self.notes.lose_all(alloc, event.take_ousted(alloc))?;
         self.note(alloc, event, found)?;
-        note_undelivered(&mut self.trails, &self.unplaced, event);
         Ok(true)
     }
 
@@ -257,6 +297,7 @@ impl Session {
             → AreTrailsKept self.old.trails self.old.audit.judge.judging named out carried
             → s.last < event.now.frame.number → AreNotesOf self.old.notes s → gone_of s.beside ≡ s.gone → AreMarksKept self.old.unplaced self.old.trails out s.beside
             → OnOk result (AreMarksKept self.new.unplaced self.new.trails out (marks_with a.place c (with_time c.time s.times) s.beside)) }
+        ensures unreached { self.new.unreached ≡ self.old.unreached }
         ensures fault { self.new.notes.fault ≡ self.old.notes.fault }
         ensures same_kept { found ≡ None → self.new.kept ≡ self.old.kept }
         ensures texts { (named : List ℕ) (carried : List Carried) (c : Carried) (a : Found) (given : Given)
@@ -308,6 +349,7 @@ impl Session {
             → AreTrailsKept self.old.trails self.old.audit.judge.judging named out carried
             → s.last < event.now.frame.number → AreNotesOf self.old.notes s → gone_of s.beside ≡ s.gone → AreMarksKept self.old.unplaced self.old.trails out s.beside
             → OnOk result (AreMarksKept self.new.unplaced self.new.trails out (marks_with a.place c (with_time c.time s.times) s.beside)) }
+        ensures unreached { self.new.unreached ≡ self.old.unreached }
         ensures fault { self.new.notes.fault ≡ self.old.notes.fault }
         ensures same_kept { found ≡ None → self.new.kept ≡ self.old.kept }
         ensures texts { (named : List ℕ) (carried : List Carried) (c : Carried) (a : Found) → found ≡ Some a → IsCarriedBy event.now datagram.now carried c
@@ -327,7 +369,7 @@ impl Session {
             time: event.time(),
             is_doubtful: event.is_doubtful(),
             has_error: event.has_error(),
-            is_intact: intact_in(event, &found),
+            has_wrong_checksum: is_wrong(event.checksum()),
             source: source.end,
             target: target.end,
             payload: datagram.payload,
@@ -357,7 +399,6 @@ impl Session {
         ensures audit { self.new.audit ≡ self.old.audit }
         ensures trails { (named out : List ℕ) (history : List Step) (c : Carried) (carried : List Carried)
             → IsAttributed named (datagrams_of carried) c.datagram found.now → IsPassing passing.now c
-            → passing.now.is_intact ≡ intact_in (framed_after named carried c)
             → AuditsAfter self.old.audit named out history (datagrams_of (c ∷ carried))
             → AreTrailsBegun self.old.trails self.old.audit.judge.judging named out c carried
             → OnOk result (AreTrailsKept self.new.trails self.old.audit.judge.judging named out (c ∷ carried)) }
@@ -367,6 +408,7 @@ impl Session {
             → AreTrailsBegun self.old.trails self.old.audit.judge.judging named out c carried
             → IsClockAfter self.old.notes.clock times → AreMarksKept self.old.unplaced self.old.trails out marks
             → OnOk result (AreMarksKept self.new.unplaced self.new.trails out (straying found.now.place c times (joining found.now.place c.time marks))) }
+        ensures unreached { self.new.unreached ≡ self.old.unreached }
         ensures fault { self.new.notes.fault ≡ self.old.notes.fault }
         ensures kept { self.new.kept ≡ self.old.kept }
     {
@@ -408,12 +450,10 @@ impl Session {
             → IfSome result (λ e. is_among e.watched.transfer.number out ≡ false) }
         ensures trail { (named out : List ℕ) (history : List Step) (carried : List Carried) (s : Noticed) → IsSessionOf self.old named out history carried s
             → IfSome result (λ e. IsTrailAfter e.trail self.old.audit.judge.judging e.watched.transfer named carried) }
-        ensures discarded { (named out : List ℕ) (history : List Step) (carried : List Carried) (s : Noticed) → IsSessionOf self.old named out history carried s
-            → s.seen ≡ all_checked named carried
-            → IfSome result (λ e. IsHandedOut e self.old.trails named carried) }
         ensures beside { (named out : List ℕ) (history : List Step) (carried : List Carried) (s : Noticed) → IsSessionOf self.old named out history carried s
-            → s.seen ≡ all_checked named carried
-            → IfSome result (λ e. IsToldBeside e.trail e.watched.transfer named carried s.beside) }
+            → IfSome result (λ e. IsMarkedBy e.watched.transfer.number s.beside e.trail) }
+        ensures undelivered { (named out : List ℕ) (history : List Step) (carried : List Carried) (s : Noticed) → IsSessionOf self.old named out history carried s
+            → IfSome result (λ e. IsUndeliveredOf e.trail.undelivered e.watched.transfer named history carried) }
         ensures all { (named out : List ℕ) (history : List Step) (carried : List Carried) (s : Noticed) → IsSessionOf self.old named out history carried s
             → result ≡ None → (n : ℕ) → (opened n (whole_of named carried) ≡ None) ⊎ (is_among n out ≡ true) }
         ensures none { (named out : List ℕ) (history : List Step) (carried : List Carried) (s : Noticed) → IsSessionOf self.old named out history carried s
@@ -424,7 +464,7 @@ impl Session {
     {
         let (number, mut trail) = self.trails.pop_first()?;
         self.unplaced.end(trail.transfer.client, number);
-        self.notes.intact.tell(&mut trail);
+        trail.tell_undelivered(self.unreached.take(number));
         joined(trail, self.audit.pop_first())
     }
 
@@ -484,6 +524,7 @@ impl Session {
             audit: _,
             trails: _,
             unplaced: _,
+            unreached: _,
             notes,
             kept: _,
         } = self;
@@ -509,28 +550,13 @@ fn key_at(keys: &[u64], number: u64) -> Option<u64>
     keys.get(place).copied()
 }
 
-/// Whether a datagram of a transfer is as it was sent, where its checksums tell that.
-fn intact_in(event: &Event, found: &Attributed) -> Option<bool>
-    ensures { result ≡ intact_at found.now.place (checksum_told event.now.sent) }
-{
-    match found.place {
-        Place::Opens(_) => intact_by(event.checksum()),
-        Place::Repeats(_) => intact_by(event.checksum()),
-        Place::Talks(_) => intact_by(event.checksum()),
-        Place::Beside(_) => intact_by(event.checksum()),
-        Place::Apart(_) => None,
-        Place::Nowhere => None,
-    }
-}
-
-/// Whether a datagram with such a checksum is as it was sent, where it has one.
-fn intact_by(checksum: Checksum) -> Option<bool>
-    ensures { result ≡ intact_by checksum }
+/// Whether one of a datagram's checksums is wrong.
+fn is_wrong(checksum: Checksum) -> bool
+    ensures { result ≡ is_wrong checksum }
 {
     match checksum {
-        Checksum::Right => Some(true),
-        Checksum::Partial | Checksum::Wrong => Some(false),
-        Checksum::Absent => None,
+        Checksum::Wrong => true,
+        Checksum::Right | Checksum::Partial | Checksum::Absent => false,
     }
 }
 

@@ -9,7 +9,6 @@ ghost use Rattle.audit_recording.specs.Audit.{AuditsAfter};
 ghost use Rattle.audit_recording.specs.Audit.Audited.{IsAttributed};
 ghost use Rattle.audit_recording.specs.Blame.Frames.{Carried, datagrams_of, framed_after, whole_of};
 ghost use Rattle.audit_recording.specs.Blame.Kept.{IsPassing, IsTrailOf, is_about_it};
-ghost use Rattle.audit_recording.specs.Blame.Spoilt.{intact_in};
 ghost use Rattle.audit_recording.specs.Judges.{WereOpened};
 ghost use Rattle.audit_recording.specs.declared.judges.judging.Judging.{Judging as JudgingKind};
 ghost use Rattle.audit_recording.specs.Losses.Noted.Event.{Asks};
@@ -23,7 +22,7 @@ ghost use Rattle.audit_recording.specs.declared.session.unplaced.Unplaced.{Unpla
 ghost use Rattle.audit_recording.specs.Session.Trails.{AreTrailsBegun, AreTrailsKept};
 
 use crate::audit::RecordingAudit;
-use crate::blame::{Passing, Spoilt, Trail, Undelivered, about};
+use crate::blame::{Passing, Trail, about};
 use crate::session::clock::Clock;
 use crate::session::losses::SILENCE;
 use crate::session::notes::Notes;
@@ -35,46 +34,6 @@ use net_udp::recording::{Datagram, Event};
 use std::alloc::{AllocError, Global};
 use std::collections::BTreeMap;
 use tftp_ends::blocks::RingDelivered;
-
-/// Notes at the newest transfer of a client that its datagram, or one to it, did not arrive, if the frame tells that.
-pub(crate) fn note_undelivered(
-    trails: &mut BTreeMap<u64, Trail>,
-    unplaced: &Unplaced,
-    event: &Event,
-)
-    ensures trails { (judging : JudgingKind) (named out : List ℕ) (carried : List Carried) → AreTrailsKept trails.old judging named out carried → AreTrailsKept trails.new judging named out carried }
-    ensures marks { (out : List ℕ) (marks : List Mark) → AreMarksKept unplaced.now trails.old out marks → AreMarksKept unplaced.now trails.new out marks }
-{
-    let Some(told) = event.unreachable() else {
-        return;
-    };
-    let undelivered = Undelivered {
-        frame: event.number(),
-        host: party_of(told.from, 0).end.address,
-        code: told.code,
-        source: party_of(told.quoted.source, told.quoted.source_port).end,
-        target: party_of(told.quoted.target, told.quoted.target_port).end,
-    };
-    note_undelivered_at(trails, unplaced.newest(undelivered.source), undelivered);
-    note_undelivered_at(trails, unplaced.newest(undelivered.target), undelivered);
-}
-
-/// Notes it at the transfer with this number, if one is named.
-fn note_undelivered_at(
-    trails: &mut BTreeMap<u64, Trail>,
-    number: Option<u64>,
-    undelivered: Undelivered,
-)
-    ensures trails { (judging : JudgingKind) (named out : List ℕ) (carried : List Carried) → AreTrailsKept trails.old judging named out carried → AreTrailsKept trails.new judging named out carried }
-    ensures marks { (u : UnplacedValue) (out : List ℕ) (marks : List Mark) → AreMarksKept u trails.old out marks → AreMarksKept u trails.new out marks }
-{
-    let Some(number) = number else {
-        return;
-    };
-    if let Some(trail) = trails.get_mut(&number) {
-        trail.note_undelivered(undelivered);
-    }
-}
 
 /// Notes a datagram that its host discarded, also at the newest transfer of a client that sent it, or that it went to.
 pub(crate) fn discard(
@@ -98,25 +57,21 @@ pub(crate) fn discard(
     let time = notes.clock.time_of(event.time());
     let frame = event.number();
     notes.discard(source, target, frame, time)?;
-    let spoilt = Spoilt {
-        frame,
-        host: source.address,
-    };
-    discard_at(trails, unplaced.newest(source), spoilt);
-    discard_at(trails, unplaced.newest(target), spoilt);
+    discard_at(trails, unplaced.newest(source), frame);
+    discard_at(trails, unplaced.newest(target), frame);
     Ok(())
 }
 
 /// Notes it at the transfer with this number, if one is named.
-fn discard_at(trails: &mut BTreeMap<u64, Trail>, number: Option<u64>, spoilt: Spoilt)
+fn discard_at(trails: &mut BTreeMap<u64, Trail>, number: Option<u64>, frame: u64)
     ensures trails { (judging : JudgingKind) (named out : List ℕ) (carried : List Carried) → AreTrailsKept trails.old judging named out carried → AreTrailsKept trails.new judging named out carried }
-    ensures each { (n : ℕ) → get nat_cmp trails.new n ≡ option_map (discarding_if (is_it n number) spoilt.frame) (get nat_cmp trails.old n) }
+    ensures each { (n : ℕ) → get nat_cmp trails.new n ≡ option_map (discarding_if (is_it n number) frame) (get nat_cmp trails.old n) }
 {
     let Some(number) = number else {
         return;
     };
     if let Some(trail) = trails.get_mut(&number) {
-        trail.discard(spoilt);
+        trail.discard(frame);
     }
 }
 
@@ -176,7 +131,7 @@ fn open(
     let later = unplaced.open(transfer.client, transfer.number, time);
     let asked = notes.ask(alloc, &trail);
     note_later(&mut trail, &later);
-    notes.intact.open(&mut trail, time);
+    notes.discards.open(&mut trail, time);
     trails.insert(transfer.number, trail)?;
     later?;
     asked
@@ -207,7 +162,6 @@ pub(crate) fn hand_over(
 ) -> Result<(), AllocError>
     ensures trails { (named out : List ℕ) (history : List Step) (c : Carried) (carried : List Carried)
         → IsAttributed named (datagrams_of carried) c.datagram found.now → IsPassing passing.now c
-        → passing.now.is_intact ≡ intact_in (framed_after named carried c)
         → AuditsAfter audit.now named out history (datagrams_of (c ∷ carried))
         → AreTrailsBegun trails.old audit.now.judge.judging named out c carried
         → OnOk result (AreTrailsKept trails.new audit.now.judge.judging named out (c ∷ carried)) }
@@ -235,7 +189,6 @@ fn hand(
     ensures trails { (named out : List ℕ) (history : List Step) (c : Carried) (carried : List Carried)
         → ((n : ℕ) → is_about_it n (framed_after named carried c) ≡ (number == n))
         → IsAttributed named (datagrams_of carried) c.datagram found.now → IsPassing passing.now c
-        → passing.now.is_intact ≡ intact_in (framed_after named carried c)
         → AuditsAfter audit.now named out history (datagrams_of (c ∷ carried))
         → AreTrailsBegun trails.old audit.now.judge.judging named out c carried
         → OnOk result (AreTrailsKept trails.new audit.now.judge.judging named out (c ∷ carried)) }

@@ -6,6 +6,7 @@ use Rattle.audit_recording.proofs.SessionLemmas.Lost.{lost_alone, lost_once}
 use Rattle.tftp_rows.specs.Whole.{once_ended, so_far}
 use Rattle.tftp_rows.proofs.FinalLemmas.{are_of, of_later}
 use Rattle.tftp_rows.proofs.LackingLemmas.{are_lacking}
+use Rattle.tftp_rows.proofs.BesideLemmas.{are_beside}
 use Rattle.tftp_rows.proofs.whole.what_is_told_is_of_the_whole_recording.Goals as goal
 
 pub returns-clause-over : goal.returns-clause-over
@@ -20,6 +21,11 @@ pub returns-clause-missing : goal.returns-clause-missing
 returns-clause-missing g c begun now file judging named notes told =
     let all = so_far told.history told.carried told.noticed in
     are_lacking begun.file.now judging named (frames_in told.recording.waiting) all all told.tellings (record { next_frames = []; next_carried = []; frames = refl; datagrams = refl }) told.came told.told.told
+
+pub returns-clause-beside : goal.returns-clause-beside
+returns-clause-beside g c begun now file judging named notes told =
+    let all = so_far told.history told.carried told.noticed in
+    are_beside begun.file.now judging named (frames_in told.recording.waiting) all all told.tellings (record { next_frames = []; next_carried = []; frames = refl; datagrams = refl }) told.came told.told.told
 
 -- what the reader holds is what waits after the frames
 still_waits : (r : RecordingState) (bytes : List ℕ) (history : List Step) → StandsFor r bytes history → r.refused ≡ None → r.waiting ≡ waiting history

@@ -25,7 +25,7 @@ pub returns-in_err-add-clause-only : goal.returns-in_err-add-clause-only
 returns-in_err-add-clause-only g c = λ ps say once.
     let memory = memory_else c.in_err-add.field-0.0 (λ e.
     read_twice _ _ c.loop-word.given c.in-Some.word.now _ (part c.in-Some-first_part.part) c.in-Some-first_part.count c.loop-word.invariant (sym c.in-Some.ensures) (sym c.word_at-in-Some.ensures) (search rules) c.in-Some-first_part.ensures
-    (λ qs rs h. c.in_err-add.ensures.once qs rs h (ap Err e)) ps say once) (λ e. c.in_err-add.ensures.known (ap Err e)) in
+    (λ qs rs h. c.in_err-add.ensures.once qs rs h (ap Err e)) ps say once) (λ e. c.in_err-add.ensures.known (ap Err e)) (λ e. c.in_err-add.ensures.alone (ap Err e)) in
     let same : c.from_residual-in_err-add.result ≡ Err c.in_err-add.field-0.0 = search rules in
     inr (same ∙ ap Err memory)
 

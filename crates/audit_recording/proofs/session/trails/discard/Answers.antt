@@ -1,6 +1,6 @@
 use Rattle.std.proofs.Common.{◌≡◌, ◌∷◌, ap, subst, ◌∙◌, unwrap_or}
 use Rattle.audit_recording.specs.Reasons.Clock.{last_of}
-use Rattle.audit_recording.specs.Session.Intact.{Gone}
+use Rattle.audit_recording.specs.Session.Discards.{Gone}
 use Rattle.audit_recording.specs.Session.Noted.{AreNotesOf, Noticed, finding, going, sharers_of}
 use Rattle.audit_recording.specs.Session.Recording.{gone_by, reached_by}
 use Rattle.audit_recording.specs.Session.Beside.{AreMarksKept}

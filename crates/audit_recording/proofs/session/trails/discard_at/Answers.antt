@@ -16,7 +16,7 @@ returns-in-Some-get_mut-clause-trails c judging named out carried kept =
     let was = sym c.in-Some-get_mut.ensures.value in
     let updates = (c.get_mut.follows.holds u).3 (ap is_some was) in
     one_stays c.args.trails.now (c.get_mut.follows.lender u) c.in-Some.number t u was updates.0
-    (stays_discarded t u (Some c.args.spoilt.frame) c.discard.ensures.is) judging named out carried kept
+    (stays_discarded t u (Some c.args.frame) c.discard.ensures.is) judging named out carried kept
 
 pub returns-in_default-get_mut-clause-trails : goal.returns-in_default-get_mut-clause-trails
 returns-in_default-get_mut-clause-trails c judging named out carried kept =
@@ -29,16 +29,16 @@ returns-in-Some-get_mut-clause-each c n =
     let was = sym c.in-Some-get_mut.ensures.value in
     let updates = (c.get_mut.follows.holds u).3 (ap is_some was) in
     let new = c.get_mut.follows.lender u in
-    subst (λ (o : Option ℕ). get nat_cmp new n ≡ option_map (discarding_if (is_it n o) c.args.spoilt.frame) (get nat_cmp c.args.trails.now n)) (sym c.in-Some.is)
-    (one_mapped c.args.trails.now new c.in-Some.number t u was updates.0 (λ here. discarding_if here c.args.spoilt.frame) c.discard.ensures.is (discarding_not c.args.spoilt.frame) n)
+    subst (λ (o : Option ℕ). get nat_cmp new n ≡ option_map (discarding_if (is_it n o) c.args.frame) (get nat_cmp c.args.trails.now n)) (sym c.in-Some.is)
+    (one_mapped c.args.trails.now new c.in-Some.number t u was updates.0 (λ here. discarding_if here c.args.frame) c.discard.ensures.is (discarding_not c.args.frame) n)
 
 pub returns-in_default-clause-each : goal.returns-in_default-clause-each
 returns-in_default-clause-each c n =
-    subst (λ (o : Option ℕ). get nat_cmp c.args.trails.now n ≡ option_map (discarding_if (is_it n o) c.args.spoilt.frame) (get nat_cmp c.args.trails.now n)) (sym c.in_default.is)
-    (sym (discarding_not c.args.spoilt.frame (get nat_cmp c.args.trails.now n)))
+    subst (λ (o : Option ℕ). get nat_cmp c.args.trails.now n ≡ option_map (discarding_if (is_it n o) c.args.frame) (get nat_cmp c.args.trails.now n)) (sym c.in_default.is)
+    (sym (discarding_not c.args.frame (get nat_cmp c.args.trails.now n)))
 
 pub returns-in_default-get_mut-clause-each : goal.returns-in_default-get_mut-clause-each
 returns-in_default-get_mut-clause-each c n =
-    subst (λ (m : BTreeMap ℕ Trail). get nat_cmp m n ≡ option_map (discarding_if (is_it n c.args.number) c.args.spoilt.frame) (get nat_cmp c.args.trails.now n)) (sym c.get_mut.follows.holds-at-none)
-    (subst (λ (o : Option ℕ). get nat_cmp c.args.trails.now n ≡ option_map (discarding_if (is_it n o) c.args.spoilt.frame) (get nat_cmp c.args.trails.now n)) (sym c.in-Some.is)
-    (none_there c.args.trails.now c.in-Some.number n (λ here. discarding_if here c.args.spoilt.frame) (discarding_not c.args.spoilt.frame) (sym c.in_default-get_mut.ensures.value)))
+    subst (λ (m : BTreeMap ℕ Trail). get nat_cmp m n ≡ option_map (discarding_if (is_it n c.args.number) c.args.frame) (get nat_cmp c.args.trails.now n)) (sym c.get_mut.follows.holds-at-none)
+    (subst (λ (o : Option ℕ). get nat_cmp c.args.trails.now n ≡ option_map (discarding_if (is_it n o) c.args.frame) (get nat_cmp c.args.trails.now n)) (sym c.in-Some.is)
+    (none_there c.args.trails.now c.in-Some.number n (λ here. discarding_if here c.args.frame) (discarding_not c.args.frame) (sym c.in_default-get_mut.ensures.value)))

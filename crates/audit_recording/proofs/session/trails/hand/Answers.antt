@@ -17,7 +17,7 @@ use Rattle.audit_recording.proofs.SessionLemmas.Trails.{begins_there, held_there
 use Rattle.audit_recording.proofs.session.trails.hand.Goals as goal
 
 pub returns-in-Some-watched-clause-trails : goal.returns-in-Some-watched-clause-trails
-returns-in-Some-watched-clause-trails c named out history d carried about at passes intact audit begun =
+returns-in-Some-watched-clause-trails c named out history d carried about at passes audit begun =
     let judging = c.args.audit.now.judge.judging in
     let t = c.in-Some.trail.now in
     let u = c.take.new.self in
@@ -35,11 +35,11 @@ returns-in-Some-watched-clause-trails c named out history d carried about at pas
     let is : is_about_it t.transfer.number (framed_after named carried d) ≡ true = about t.transfer.number ∙ ap (λ k. c.args.number == k) number ∙ is_itself c.args.number in
     on_ok_both c.take.result
     (λ own between. one_handed old new c.args.number t u was updates.0 judging named out d carried begun about c.take.ensures.first c.take.ensures.request own between)
-    (c.take.ensures.stands judging t.transfer named d carried held.2.own passes intact at.0 at.1 is (λ opens. (begins_there old new c.args.number t u was updates.0 judging named out d carried begun opens).0) watching)
+    (c.take.ensures.stands judging t.transfer named d carried held.2.own passes at.0 at.1 is (λ opens. (begins_there old new c.args.number t u was updates.0 judging named out d carried begun opens).0) watching)
     (c.take.ensures.between judging t.transfer named d carried held.2.own held.2.between passes at.0 at.1 is watching)
 
 pub returns-in-None-watched-clause-trails : goal.returns-in-None-watched-clause-trails
-returns-in-None-watched-clause-trails c named out history d carried about at passes intact audit begun =
+returns-in-None-watched-clause-trails c named out history d carried about at passes audit begun =
     let t = c.in-Some.trail.now in
     let held = subst (IsTrailKept c.args.audit.now.judge.judging named out (whole_of named (d ∷ carried)) carried c.args.number) (sym c.in-Some.ensures.value) (begun c.args.number).0 in
     elim (c.in-None-watched.ensures named out history (datagrams_of (d ∷ carried)) audit) [
@@ -48,7 +48,7 @@ returns-in-None-watched-clause-trails c named out history d carried about at pas
     ]
 
 pub returns-in-None-clause-trails : goal.returns-in-None-clause-trails
-returns-in-None-clause-trails c named out history d carried about at passes intact audit begun =
+returns-in-None-clause-trails c named out history d carried about at passes audit begun =
     subst (λ (m : BTreeMap ℕ Trail). AreTrailsKept m c.args.audit.now.judge.judging named out (d ∷ carried)) (sym c.get_mut.follows.holds-at-none)
     (none_handed c.args.trails.now c.args.number c.args.audit.now.judge.judging named out d carried about (sym c.in-None.ensures.value) begun)
 

@@ -11,11 +11,11 @@ use Rattle.audit_recording.proofs.SessionLemmas.Trails.{all_passed_by}
 use Rattle.audit_recording.proofs.session.trails.hand_over.Goals as goal
 
 pub returns-in-Some-clause-trails : goal.returns-in-Some-clause-trails
-returns-in-Some-clause-trails c named out history d carried at passes intact audit begun =
-    c.hand.ensures.trails named out history d carried (λ n. c.in-Some.ensures (framed_after named carried d).placed at.0 n) at passes intact audit begun
+returns-in-Some-clause-trails c named out history d carried at passes audit begun =
+    c.hand.ensures.trails named out history d carried (λ n. c.in-Some.ensures (framed_after named carried d).placed at.0 n) at passes audit begun
 
 pub returns-in-None-clause-trails : goal.returns-in-None-clause-trails
-returns-in-None-clause-trails c named out history d carried at passes intact audit begun =
+returns-in-None-clause-trails c named out history d carried at passes audit begun =
     let judging = c.args.audit.now.judge.judging in
     always c.leave_out.result
     (c.leave_out.ensures.trails judging named out (d ∷ carried)

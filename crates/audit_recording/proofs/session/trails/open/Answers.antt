@@ -13,7 +13,7 @@ use Rattle.audit_recording.specs.Reasons.Unplaced.{IsUnplacedAfter, after, lates
 use Rattle.audit_recording.specs.Reasons.Unplaced.Event.{Opens}
 use Rattle.audit_recording.specs.Session.Beside.{AreMarksKept, leaving_out_some}
 use Rattle.audit_recording.specs.Session.Beside.Mark.{Begins}
-use Rattle.audit_recording.specs.Session.Intact.{before_opening, newest_at}
+use Rattle.audit_recording.specs.Session.Discards.{before_opening, newest_at}
 use Rattle.audit_recording.specs.Blame.Frames.{Framed, datagrams_of, framed_after}
 use Rattle.audit_recording.proofs.JudgesLemmas.Keeping.{new_before}
 use Rattle.audit_recording.proofs.ReasonsLemmas.Unplaced.{on_ok}
@@ -67,7 +67,7 @@ returns-clause-marks c named out d carried s marks opens handed are later gone k
     subst (λ (k : ℕ). OnOk c.ask-asked.result (AreMarksKept c.open-later.new.self c.insert.new.self out (Begins x k ∷ marks))) time
     (on_ok c.ask-asked.result
     (λ (after_it : AreNotesOf c.ask-asked.new.self (noting (Asks w.transfer.client.address w.first) w.first s)).
-    let told = c.open.ensures.is s.seen s.gone after_it.intact in
+    let told = c.open.ensures.is s.gone after_it.discards in
     let were = sym gone in
     begins_kept c.args.unplaced.now c.open-later.new.self c.args.trails.now c.insert.new.self out marks x now c.open.new.trail kept unknown.1 stands
     (begins_here x now marks c.open.new.trail

@@ -27,6 +27,7 @@ returns-clause-told g c named out history carried s is e =
         };
         trail = c.in-Some.ended.trail;
         kept = kept_nowhere c.in-Some.ended.trail _ c.in-Some.ended.watched.transfer named carried trail.own;
+        undelivered = c.in-Some.ensures.undelivered named out history carried s is;
         of = row_then c.in_ok-row.row _ c.read_until.result c.in-Some.ended.trail s c.in-Some.ended.watched.transfer named carried moment (c.in_ok-row.ensures _ _ named carried trail);
         prints = c.in_ok-print_listed.ensures.prints;
         number = c.saturating_add-self.ensures;
@@ -53,6 +54,7 @@ returns-in_err-print_listed-clause-part g c named out history carried s is =
       };
       trail = c.in-Some.ended.trail;
       kept = kept_nowhere c.in-Some.ended.trail _ c.in-Some.ended.watched.transfer named carried trail.own;
+      undelivered = c.in-Some.ensures.undelivered named out history carried s is;
       row = c.in_ok-row.row;
       of = subst (λ n. IsListRowOf c.in_ok-row.row n c.in-Some.ended.trail (moment_of s) c.in-Some.ended.watched.transfer named carried) c.saturating_add-self.ensures
           (row_then c.in_ok-row.row _ c.read_until.result c.in-Some.ended.trail s c.in-Some.ended.watched.transfer named carried moment (c.in_ok-row.ensures _ _ named carried trail));

@@ -1,5 +1,6 @@
 use Rattle.std.proofs.Common.{◌∙◌, subst, sym}
-use Rattle.audit_recording.specs.Session.HandedOut.{IsToldBeside}
+use Rattle.audit_recording.specs.Session.Beside.{IsMarkedBy}
+use Rattle.audit_recording.specs.Session.Heard.{IsUndeliveredOf}
 use Rattle.audit_recording.specs.declared.blame.trail.Trail.{Trail}
 use Rattle.tftp_rows.proofs.TellingLemmas.{judged_as, missing_there, numbered, numbered_part, on_err, told_with, until_there, within_there}
 use Rattle.tftp_rows.proofs.teller.Teller.tell_oldest.Goals as goal
@@ -26,7 +27,8 @@ returns-clause-told g c named out history carried s is e =
       of = judged_as c.new-judged.result c.in-Some.ended.trail c.in-Some.ended.watched _ _ c.in-Some.ended.watched.transfer named carried (c.judging.ensures ∙ c.pop.ensures.judging) (c.new-judged.ensures.judged _ named carried) (c.in-Some.ensures.trail named out history carried s is) watched.1;
       missing = missing_there c.new-judged.result c.in-Some.ended.trail c.missing_of-missing.result s c.new-judged.ensures.trail c.new-judged.ensures.missing (c.missing_of-missing.ensures.first s stands.notes);
       within = within_there c.new-judged.result c.in-Some.ended.trail c.missing_of-missing.result s c.new-judged.ensures.trail c.new-judged.ensures.missing (c.missing_of-missing.ensures.within s stands.notes);
-      beside = λ seen. subst (λ (t : Trail). IsToldBeside t c.in-Some.ended.watched.transfer named carried s.beside) (sym c.new-judged.ensures.trail) (c.in-Some.ensures.beside named out history carried s is seen);
+      beside = subst (IsMarkedBy c.in-Some.ended.watched.transfer.number s.beside) (sym c.new-judged.ensures.trail) (c.in-Some.ensures.beside named out history carried s is);
+      undelivered = subst (λ (t : Trail). IsUndeliveredOf t.undelivered c.in-Some.ended.watched.transfer named history carried) (sym c.new-judged.ensures.trail) (c.in-Some.ensures.undelivered named out history carried s is);
       until = until_there c.new-judged.result c.pop.new.self c.read_until-now.result s stands.notes c.new-judged.ensures.until c.read_until-now.ensures;
       rows = numbered g.W.Write.contents c.args.self.now c.tell_judged.new.self c.saturating_add-self.result _ _ rows;
       number = told_with g.W.Write.contents c.args.self.now c.tell_judged.new.self c.saturating_add-self.result _ _ rows ∙ c.saturating_add-self.ensures;

@@ -15,8 +15,7 @@ returns-clause-stands c judging x named carried was = record {
   twice = was.twice;
   copied_from = was.copied_from;
   damaged = was.damaged;
-  from_client = was.from_client;
-  to_client = was.to_client;
+  spoilt = was.spoilt;
   closing = was.closing;
   blame = was.blame;
 }

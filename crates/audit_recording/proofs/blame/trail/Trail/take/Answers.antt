@@ -7,11 +7,11 @@ use Rattle.audit_recording.specs.Blame.Frames.{Framed, framed, framed_after, vie
 use Rattle.audit_recording.specs.Blame.Kept.{IsBlameBetween, IsBlameOf, sent_of}
 use Rattle.audit_recording.specs.Endings.Kept.{IsClosingOf}
 use Rattle.audit_recording.specs.declared.rows.row.Point.TheVariants.{Client}
-use Rattle.audit_recording.proofs.BlameLemmas.Trailing.{all_placed, gone_at, named_at, passed_same, spoilt_at, trail_more, twice_at}
+use Rattle.audit_recording.proofs.BlameLemmas.Trailing.{all_placed, gone_at, named_at, passed_same, trail_more, twice_at}
 use Rattle.audit_recording.proofs.blame.trail.Trail.take.Goals as goal
 
 pub returns-clause-stands : goal.returns-clause-stands
-returns-clause-stands c judging x named d carried was passes intact at doubts about opens watching =
+returns-clause-stands c judging x named d carried was passes at doubts about opens watching =
     let f : Framed = framed_after named carried d in
     let whole = whole_of named carried in
     let number = c.note.ensures.number ∙ ap (λ (e : TransferEnds). e.number) c.note_place.ensures.ends ∙ was.number in
@@ -28,10 +28,9 @@ returns-clause-stands c judging x named d carried was passes intact at doubts ab
     (subst (λ (k : Closing). IsClosingOf k x (view_of Client x.number named carried)) (sym c.note_place.ensures.closing) was.closing))
     passes at ends (number ∙ sym (ap (λ (y : Transfer). y.number) own))) in
     trail_more c.args.self.now c.note_place.new.self _ judging x named d carried c.args.passing.now was passes about c.args.found.now.place at c.note_place.ensures.own c.note_place.ensures.beside
-    refl refl refl refl refl refl c.first-self.ensures c.first-self-2.ensures number ends opens gone names
+    refl refl refl refl refl refl c.first-self.ensures c.first-self-2.ensures c.first-self-3.ensures number ends opens gone names
     (twice_at c.args.self.now c.note_place.new.self c.note_place.new.self judging x named d carried c.args.passing.now was passes about c.args.found.now.place at
     (λ own. c.in_ok-note_place.ensures.twice (map sent_of (view_of Client x.number named carried)) own was.twice) c.note_place.ensures.beside)
-    (spoilt_at c.args.self.now c.note_place.new.self c.note_place.new.self judging x named d carried c.args.passing.now was passes about c.args.found.now.place at intact c.note_place.ensures.own c.note_place.ensures.beside)
     closing
     (c.in_ok-take.ensures.ends judging x f whole (framed named carried) (subst (λ (b : Blame). IsBlameOf b judging x whole (framed named carried)) (sym c.note_place.ensures.blame) was.blame) passed about number ends (all_placed named carried) watching)
 

@@ -10,7 +10,7 @@ returns-clause-stands c = λ s are later.
     (λ losses. record {
       losses = losses;
       frames = (omega arith, up_to_more s.last c.args.trail.now.first s.events low are.frames);
-      intact = are.intact;
+      discards = are.discards;
       clock = are.clock;
       kinds = are.kinds;
       behind = are.behind;

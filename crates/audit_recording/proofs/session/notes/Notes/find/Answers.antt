@@ -23,7 +23,7 @@ loop-frame-preserved c =
           (λ more was. record {
             losses = subst (λ clock. AreLosses c.find.new.self (Finds (get_or frames i 0) clock ∷ more.events)) (λ j. (c.loop-frame.invariant.clock j).reached) (c.in_ok-find.ensures more.events was.losses);
             frames = was.frames;
-            intact = was.intact;
+            discards = was.discards;
             clock = was.clock;
             kinds = was.kinds;
             behind = was.behind;

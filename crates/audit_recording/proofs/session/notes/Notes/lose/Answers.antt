@@ -24,7 +24,7 @@ loop-frame-preserved c =
           (λ more was. record {
             losses = c.in_ok-give_up.ensures more.events was.losses;
             frames = was.frames;
-            intact = was.intact;
+            discards = was.discards;
             clock = was.clock;
             kinds = more_lost c.loop-frame.self.kinds c.add.new.self (told_in more) (get_or frames i 0 ∷ lost_frames more.events) was.kinds (c.in_ok-add.ensures (lost_frames more.events) was.kinds.lost);
             behind = was.behind;

@@ -32,7 +32,7 @@ returns-clause-stands c = λ s are low.
       record {
         losses = subst (λ g. AreLosses c.lose.new.self (Loses g ∷ left.events)) same losses;
         frames = (omega arith, up_to_more s.last event.frame.number left.events low were.frames);
-        intact = were.intact;
+        discards = were.discards;
         clock = were.clock;
         kinds = more_lost c.lose_others.new.self.kinds c.add.new.self (told_in left) (event.frame.number ∷ lost_frames left.events) were.kinds
             (subst (λ n. AreFramesOf c.add.new.self (n ∷ lost_frames left.events)) c.number-frame.ensures (c.in_ok-add.ensures (lost_frames left.events) were.kinds.lost));

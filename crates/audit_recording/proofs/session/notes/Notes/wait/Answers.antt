@@ -24,7 +24,7 @@ returns-clause-stands c = λ s are low.
       record {
         losses = subst (λ g. AreLosses c.wait.new.self (Waits g ∷ s.events)) same losses;
         frames = (omega arith, up_to_more s.last event.frame.number s.events low are.frames);
-        intact = are.intact;
+        discards = are.discards;
         clock = are.clock;
         kinds = are.kinds;
         behind = are.behind;

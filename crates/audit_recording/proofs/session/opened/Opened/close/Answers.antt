@@ -12,10 +12,11 @@ returns-clause-closed g c named out history carried s is =
       noticed = is.noticed;
       kept = record {
         audit = is.kept.audit;
-        notes = record { losses = kept.losses; frames = kept.frames; intact = kept.intact; clock = kept.clock; kinds = kept.kinds; behind = kept.behind; begun = kept.begun; asked = kept.asked };
+        notes = record { losses = kept.losses; frames = kept.frames; discards = kept.discards; clock = kept.clock; kinds = kept.kinds; behind = kept.behind; begun = kept.begun; asked = kept.asked };
         trails = is.kept.trails;
         texts = is.kept.texts;
         beside = is.kept.beside;
+        unreached = is.kept.unreached;
       };
       may_lose = refl;
       dropped = c.lost-dropped.ensures;

@@ -15,7 +15,7 @@ returns-clause-stands c =
       noticed = (refl, refl);
       kept = record {
         audit = c.in_ok-new.ensures.stands;
-        notes = c.new-4.ensures.stands;
+        notes = c.new-5.ensures.stands;
         trails = λ n. subst (λ (es : List (ℕ × Trail)). IsTrailKept c.in_ok-new.field-0.judge.judging named [] (whole_of named []) [] n (lookup (is_at (nat_cmp n)) es))
             (sym c.new-2.ensures.empty) (inl refl);
         texts = c.anew.ensures.texts named;
@@ -27,5 +27,6 @@ returns-clause-stands c =
           still = λ n some. let none = subst (λ (es : List (ℕ × Trail)). IsSome (lookup (is_at (nat_cmp n)) es)) c.new-2.ensures.empty some in absurd (true≢false (sym none));
           marked = λ n. subst (λ (es : List (ℕ × Trail)). IfSome (lookup (is_at (nat_cmp n)) es) (IsMarkedBy n [])) (sym c.new-2.ensures.empty) tt;
         };
+        unreached = ([], refl, λ n here. c.new-4.ensures n);
       };
     }

@@ -3,16 +3,13 @@ use Rattle.audit_flows.specs.{Attributed}
 use Rattle.audit_views.specs.Parties.{host_name}
 use Rattle.audit_views.specs.Views.{IsFed}
 use Rattle.audit_views.specs.{Held}
-use Rattle.net_udp.specs.Recording.{checksum_told}
-use Rattle.audit_recording.specs.Reasons.Spoilt.{checked}
 use Rattle.audit_recording.specs.Session.Noted.{AreNotesOf, Noticed, finding, going_back, sharers_of, with_time}
 use Rattle.audit_recording.specs.Reasons.Clock.{IsClockAfter, last_of}
 use Rattle.audit_recording.specs.Session.Beside.{AreMarksKept, Mark}
 use Rattle.audit_recording.specs.Session.Recording.{asking, beginning, joining, marking, passing_at, reached_by, setting_aside, stray_in, straying}
 use Rattle.audit_recording.specs.Audit.Audited.{IsAttributed}
 use Rattle.audit_recording.specs.Blame.Frames.{Framed, datagrams_of, framed_after}
-use Rattle.audit_recording.specs.Blame.Kept.{IsPassing}
-use Rattle.audit_recording.specs.Blame.Spoilt.{intact_at}
+use Rattle.audit_recording.specs.Blame.Kept.{IsPassing, is_wrong}
 use Rattle.audit_recording.specs.Session.Strays.{Stray}
 use Rattle.audit_recording.specs.Session.Texts.{AreTextsKept}
 use Rattle.audit_recording.specs.declared.blame.passing.Passing.{Passing}
@@ -36,14 +33,13 @@ returns-clause-notes c carried s x a is carries later are =
     let mine : Stray = record { source = c.party_of-source.result.end; target = c.party_of-target.result.end; payload = c.args.datagram.now.payload.now; frame = c.number.result } in
     let stray : mine ≡ stray_in x =
     λ i. record { source = source i; target = target i; payload = sym carries.taken.payload i; frame = frame i } in
-    let intact = c.intact_in.ensures ∙ ap (λ (p : Attributed). intact_at p.place (checksum_told event.sent)) same in
-    let passed : AreNotesOf c.pass.new.self (passing_at a.place (checksum_told event.sent) x whole) =
+    let passed : AreNotesOf c.pass.new.self (passing_at x whole) =
     subst (λ (t : Noticed). AreNotesOf c.pass.new.self t)
-    (λ i. record whole { seen = checked (frame i) ((source i).address) (intact i) ∷ whole.seen; times = with_time (time i) whole.times; backwards = going_back (frame i) (time i) whole.times whole.backwards })
+    (λ i. record whole { times = with_time (time i) whole.times; backwards = going_back (frame i) (time i) whole.times whole.backwards })
     (c.in_ok-pass.ensures.stands whole found) in
     let number = c.number.ensures in
-    let more : Noticed = marking a.place x (passing_at a.place (checksum_told event.sent) x whole) in
-    let asked = c.in_ok-ask.ensures.notes more (notes_marked c.pass.new.self a.place x (passing_at a.place (checksum_told event.sent) x whole) passed) (omega arith) in
+    let more : Noticed = marking a.place x (passing_at x whole) in
+    let asked = c.in_ok-ask.ensures.notes more (notes_marked c.pass.new.self a.place x (passing_at x whole) passed) (omega arith) in
     let followed = c.in_ok-follow.ensures.notes (asking c.in-Some.found.place c.number.result more) asked in
     subst (λ (t : Noticed). AreNotesOf c.follow.new.self.notes t) (λ i. setting_aside ((same i).place) (stray i) (asking ((same i).place) (frame i) more)) followed
 
@@ -57,7 +53,7 @@ returns-clause-trails c named out history carried d a is carries at handed audit
       time = c.time.result;
       is_doubtful = c.is_doubtful.result;
       has_error = c.has_error.result;
-      is_intact = c.intact_in.result;
+      has_wrong_checksum = c.is_wrong.result;
       source = c.party_of-source.result.end;
       target = c.party_of-target.result.end;
       payload = c.args.datagram.now.payload;
@@ -67,14 +63,14 @@ returns-clause-trails c named out history carried d a is carries at handed audit
       time = c.time.ensures ∙ sym carries.time;
       is_doubtful = c.is_doubtful.ensures ∙ sym carries.is_doubtful;
       has_error = c.has_error.ensures ∙ sym carries.has_error;
+      has_wrong_checksum = c.is_wrong.ensures ∙ ap is_wrong (c.checksum.ensures ∙ sym carries.checksum);
       source = c.party_of-source.ensures.end ∙ sym carries.taken.source;
       target = c.party_of-target.ensures.end ∙ sym carries.taken.target;
       payload = sym carries.taken.payload;
     } in
     let begun = c.in_ok-ask.ensures.trails judging named out d carried (ap (λ (p : Attributed). p.place) same ∙ at.0) passes handed kept in
-    let intact = c.intact_in.ensures ∙ (λ i. intact_at ((ap (λ (p : Attributed). p.place) same ∙ at.0) i) (sym carries.checksum i)) in
     c.in_ok-follow.ensures.trails named out history d carried
-    (subst (λ (f : Attributed). IsAttributed named (datagrams_of carried) d.datagram f) (sym same) at) passes intact audit begun
+    (subst (λ (f : Attributed). IsAttributed named (datagrams_of carried) d.datagram f) (sym same) at) passes audit begun
 
 pub returns-clause-texts : goal.returns-clause-texts
 returns-clause-texts c named carried d a is carries at kept =
@@ -94,7 +90,7 @@ returns-clause-texts c named carried d a is carries at kept =
       time = c.time.result;
       is_doubtful = c.is_doubtful.result;
       has_error = c.has_error.result;
-      is_intact = c.intact_in.result;
+      has_wrong_checksum = c.is_wrong.result;
       source = c.party_of-source.result.end;
       target = c.party_of-target.result.end;
       payload = c.args.datagram.now.payload;
@@ -104,6 +100,7 @@ returns-clause-texts c named carried d a is carries at kept =
       time = c.time.ensures ∙ sym carries.time;
       is_doubtful = c.is_doubtful.ensures ∙ sym carries.is_doubtful;
       has_error = c.has_error.ensures ∙ sym carries.has_error;
+      has_wrong_checksum = c.is_wrong.ensures ∙ ap is_wrong (c.checksum.ensures ∙ sym carries.checksum);
       source = c.party_of-source.ensures.end ∙ sym carries.taken.source;
       target = c.party_of-target.ensures.end ∙ sym carries.taken.target;
       payload = sym carries.taken.payload;
@@ -137,19 +134,18 @@ returns-clause-marks c named out history carried s d a is carries at handed audi
     let frame = c.number.ensures ∙ sym carries.frame in
     let time = c.time.ensures ∙ sym carries.time in
     let source = c.party_of-source.ensures.end ∙ sym carries.taken.source in
-    let intact = c.intact_in.ensures ∙ ap (λ (p : Attributed). intact_at p.place (checksum_told event.sent)) same in
-    let passed : AreNotesOf c.pass.new.self (passing_at a.place (checksum_told event.sent) d whole) =
+    let passed : AreNotesOf c.pass.new.self (passing_at d whole) =
     subst (λ (t : Noticed). AreNotesOf c.pass.new.self t)
-    (λ i. record whole { seen = checked (frame i) ((source i).address) (intact i) ∷ whole.seen; times = with_time (time i) whole.times; backwards = going_back (frame i) (time i) whole.times whole.backwards })
+    (λ i. record whole { times = with_time (time i) whole.times; backwards = going_back (frame i) (time i) whole.times whole.backwards })
     (c.in_ok-pass.ensures.stands whole found) in
     let number = c.number.ensures in
-    let before : Noticed = passing_at a.place (checksum_told event.sent) d whole in
+    let before : Noticed = passing_at d whole in
     let passing : Passing = record {
       frame = c.number.result;
       time = c.time.result;
       is_doubtful = c.is_doubtful.result;
       has_error = c.has_error.result;
-      is_intact = c.intact_in.result;
+      has_wrong_checksum = c.is_wrong.result;
       source = c.party_of-source.result.end;
       target = c.party_of-target.result.end;
       payload = c.args.datagram.now.payload;
@@ -159,6 +155,7 @@ returns-clause-marks c named out history carried s d a is carries at handed audi
       time = time;
       is_doubtful = c.is_doubtful.ensures ∙ sym carries.is_doubtful;
       has_error = c.has_error.ensures ∙ sym carries.has_error;
+      has_wrong_checksum = c.is_wrong.ensures ∙ ap is_wrong (c.checksum.ensures ∙ sym carries.checksum);
       source = source;
       target = c.party_of-target.ensures.end ∙ sym carries.taken.target;
       payload = sym carries.taken.payload;

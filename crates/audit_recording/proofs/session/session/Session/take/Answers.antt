@@ -38,7 +38,7 @@ returns-clause-none c named history carried s step none gives of noticed are =
     same (λ gives_so low_so. c.in_ok-note.ensures.none named carried after none gives_so low_so let_go) gives low in (
       told.1,
       (carried, s, event, told.0, noticed, of, told.2, adds_bare named event told.0 carried after told.1 gives told.2 told.3),
-      (told.4.0, λ out kept. c.note_undelivered.ensures.marks out told.1.beside (told.4.1 out kept)),
+      told.4,
     )
 
 pub returns-clause-datagram : goal.returns-clause-datagram
@@ -76,10 +76,9 @@ returns-clause-trails c named out history carried x a given is came carries at h
       sent = c.take_ousted.ensures.sent i;
       is_discarded = c.take_ousted.ensures.discarded i;
     } in
-    c.note_undelivered.ensures.trails c.args.self.now.audit.judge.judging named out (x ∷ carried)
-    (subst (λ (e : EventState). IsFateOf e.frame.parts e.likeness e.brought.outcome e.is_discarded (Datagram given) → IsCarriedBy e given carried x
+    subst (λ (e : EventState). IsFateOf e.frame.parts e.likeness e.brought.outcome e.is_discarded (Datagram given) → IsCarriedBy e given carried x
     → AreTrailsKept c.note.new.self.trails c.args.self.now.audit.judge.judging named out (x ∷ carried))
-    same (λ came_so carries_so. c.in_ok-note.ensures.trails named out history carried x a given is came_so carries_so at handed audit kept) came (carried_bare event given carried x carries))
+    same (λ came_so carries_so. c.in_ok-note.ensures.trails named out history carried x a given is came_so carries_so at handed audit kept) came (carried_bare event given carried x carries)
 
 pub returns-clause-marks : goal.returns-clause-marks
 returns-clause-marks c named out history carried s step x a given is of came carries at handed audit trails_kept noticed are kept =
@@ -99,15 +98,13 @@ returns-clause-marks c named out history carried s step x a given is of came car
     let number = of.number in
     let later : s.last < event.frame.number = omega arith in
     let more = marks_with a.place x (with_time x.time s.times) s.beside in
-    c.note_undelivered.ensures.marks out more
-    (subst (λ (e : EventState). IsFateOf e.frame.parts e.likeness e.brought.outcome e.is_discarded (Datagram given) → IsCarriedBy e given carried x → s.last < e.frame.number
+    subst (λ (e : EventState). IsFateOf e.frame.parts e.likeness e.brought.outcome e.is_discarded (Datagram given) → IsCarriedBy e given carried x → s.last < e.frame.number
     → AreMarksKept c.note.new.self.unplaced c.note.new.self.trails out more)
     same (λ came_so carries_so later_so. c.in_ok-note.ensures.marks named out (step ∷ history) carried after x a given is came_so carries_so at handed audit trails_kept later_so let_go (gone_is named history carried s noticed) kept)
-    came (carried_bare event given carried x carries) later)
+    came (carried_bare event given carried x carries) later
 
 pub returns-clause-same_trails : goal.returns-clause-same_trails
-returns-clause-same_trails c judging named out carried none kept =
-    c.note_undelivered.ensures.trails judging named out carried (c.in_ok-note.ensures.same_trails judging named out carried none kept)
+returns-clause-same_trails c judging named out carried none kept = c.in_ok-note.ensures.same_trails judging named out carried none kept
 
 pub returns-clause-texts : goal.returns-clause-texts
 returns-clause-texts c named carried x a given is came carries at kept =
