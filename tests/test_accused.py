@@ -40,12 +40,16 @@ LOST, CUT = "frame 4 is not there whole", "1 datagram not there whole.*"
 AHEAD = f"rule {Rule.ACK_AHEAD.number} {Rule.ACK_AHEAD.printed}"
 BACK = f"rule {Rule.GONE_BACK.number} {Rule.GONE_BACK.printed}"
 ELSEWHERE = f"rule {Rule.WRONG_PORT.number} {Rule.WRONG_PORT.printed}"
+MALFORMED = f"rule {Rule.MALFORMED.number} {Rule.MALFORMED.printed}"
 LENGTH = f"rule {Rule.BLOCK_LENGTH.number} {Rule.BLOCK_LENGTH.printed}"
 OVERRUN = f"rule {Rule.WINDOW_OVERRUN.number} {Rule.WINDOW_OVERRUN.printed}"
 CHANGED = f"rule {Rule.BLOCK_CHANGED.number} {Rule.BLOCK_CHANGED.printed}"
 CHANGED_SUM = "frame 2 has a wrong checksum, so that its host may have discarded it"
 DISCARDED = r"with a wrong checksum, that a host discarded \(frame 4\)"
 FOR_ITS_SUM = "frame 4 has a wrong checksum, so that its host may have discarded it"
+JOINED = "frame {} may be several datagrams that were recorded as one"
+TURNED_AWAY = "its client had asked before, and sent an ERROR alone to who sent it something first"
+UNREQUESTED = f"rule {Rule.OPTION_NOT_REQUESTED.number} {Rule.OPTION_NOT_REQUESTED.printed}"
 SKIPPED = f"refused datagram 4 rule {Rule.BLOCK_SKIPPED.number} {Rule.BLOCK_SKIPPED.printed}"
 UNPLACED = f"- doubtful {SKIPPED}: it may have been recorded between its two ends: name the place with --end"
 WRITTEN = "- accepted put octet blocks 3 bytes 1025"
@@ -215,15 +219,31 @@ CASES = (
     Case(
         "an-error-8-to-a-late-second-answer",
         "a request is answered twice, the second time after the next one, and the client refuses that by ERROR 8",
-        (NOBODY, NOBODY), is_open=True,
+        (NOBODY, f"- doubtful refused datagram 2 {UNREQUESTED}: {TURNED_AWAY}"), ("", "between"),
+    ),
+    Case(
+        "an-error-8-to-a-late-second-answer", "the same, where the place is named", (NOBODY, NOBODY),
+        ("client", "server"),
     ),
     Case(
         "a-wrong-refusal-and-a-late-second-answer", "the same, and the first answer came with a wrong checksum",
-        (NOBODY, NOBODY), is_open=True,
+        (NOBODY, f"- doubtful refused datagram 2 {UNREQUESTED}: .*{TURNED_AWAY}"), ("", "between"),
     ),
     Case(
         "a-burst-recorded-as-one", "the recorder's kernel joins the blocks of a window, which came one by one",
-        (NOBODY,), is_open=True,
+        (f"- doubtful refused datagram 4 {LENGTH}: {JOINED.format(4)}",), told="",
+    ),
+    Case(
+        "a-block-twice-recorded-as-one", "it joins a block that the network repeats",
+        (f"- doubtful refused datagram 2 {LENGTH}: {JOINED.format(2)}",), told="",
+    ),
+    Case(
+        "an-ack-twice-recorded-as-one", "it joins an ACK that the network repeats",
+        (f"- doubtful refused datagram 3 {MALFORMED} AckLength: {JOINED.format(3)}",), told="",
+    ),
+    Case(
+        "a-request-twice-recorded-as-one", "it joins a request that the network repeats",
+        (f"- doubtful refused datagram 1 {MALFORMED} OddOptions: .*{JOINED.format(1)}.*",), told="",
     ),
     Case(
         "a-clock-that-jumps-between-two-transfers",

@@ -127,8 +127,10 @@ class Transfer:
     is_left_out: bool = False
     # whether its client asked more than once, for it or before it, since it was last silent
     has_asked_more: bool = False
-    # whether the client went on with who first sent it something, and those that it sent to where nothing had passed
+    # whether the client went on with who first sent it something, and by more than an ERROR; and those that it sent to
+    # where nothing had passed
     is_followed: bool = False
+    is_followed_by_more: bool = False
     spoken_first: set[int] = field(default_factory=set)
     # what may be its client's first word to an answer that came before the recording began
     first_words: set[int] = field(default_factory=set)
@@ -223,6 +225,11 @@ class Transfer:
         before = any(one.payload[:4] == ERROR_5 for one in self.talked() if one.number < it.number)
         return it.payload[:4] == ERROR_5 or begins(it.payload, 5) and before
 
+    def is_turned_away(self, number: int) -> bool:
+        """Whether by then something had come to its client, which had asked before, and went on by an ERROR alone."""
+        is_by_error = self.has_asked_more and self.is_followed and not self.is_followed_by_more
+        return is_by_error and any(it.target == self.client and it.number <= number for it in self.talked())
+
     def doubts_at(self, place: Place, number: int) -> list[str]:
         """Why a refusal at this datagram is no accusation there."""
         it = next(it for it in self.all_seen() if it.number == number)
@@ -232,6 +239,8 @@ class Transfer:
             told.append("it may come of an earlier transfer between the same two ports")
         if not self.is_followed and any(it.target == self.client and it.number <= number for it in self.talked()):
             told.append("its client did not go on with who first sent it something")
+        if self.is_turned_away(number):
+            told.append("its client had asked before, and sent an ERROR alone to who first sent it something")
         if self.tells_strays(it):
             told.append("ERROR 5 may answer what came late")
         if place == "between" and self.follows_unknown_id(it):
@@ -442,7 +451,9 @@ class Attribution:
         line.is_answered |= one is line.latest and (says_more or one.is_refusal(it))
         if it.source == client:
             talk.acked_0 = it.payload == ACK_0
-            one.is_followed |= it.payload[:4] != ERROR_5 and one is line.latest and one.answered == other
+            is_followed = it.payload[:4] != ERROR_5 and one is line.latest and one.answered == other
+            one.is_followed |= is_followed
+            one.is_followed_by_more |= is_followed and not begins(it.payload, 5)
             if says_more:
                 line.only_asked = False
                 one.went_on = one.went_on or other

@@ -19,6 +19,7 @@ FRAME_KINDS: dict[str, str] = {
     "drops": "the recorder dropped frames, and says how many",
     "checksums": "datagrams come with a wrong checksum, and the host discards them",
     "offload": "a host leaves checksums to its network card, but of what it sends in fragments",
+    "joined": "and the datagrams of a burst, or a packet that comes twice, are recorded as one",
     "unsummed": "a host makes no checksums, and the network puts a wrong one into datagrams, which are discarded",
     "mirror": "each frame is recorded twice at one interface",
     "one_way": "one direction only is recorded",
@@ -91,6 +92,18 @@ def with_header_sum(packet: bytes) -> bytes:
     return head[:10] + struct.pack("!H", total ^ 0xFFFF) + packet[12:]
 
 
+def follows(one: bytes, other: bytes) -> bool:
+    """Whether the other packet is the same as the one, or has the next number."""
+    numbers = [int.from_bytes(payload[2:4], "big") for payload in (one, other)]
+    is_next = one[1:2] in (b"\3", b"\4") and one[:2] == other[:2] and numbers[1] == (numbers[0] + 1) % 65_536
+    return len(one) >= 4 and (one == other or is_next)
+
+
+def joined(burst: list[Datagram]) -> Datagram:
+    """One datagram with all that these carry."""
+    return burst[0]._replace(payload=b"".join(it.payload for it in burst))
+
+
 class Recorder:
     """Writes down what passes at a place."""
 
@@ -99,7 +112,7 @@ class Recorder:
         self.dropped, self.id = 0, 0
         hosts = sorted({it.source.host for it in recording.datagrams})
         # The host that recorded, or between one of all.
-        self.leaving = (recording.host or self.drawn.choice(hosts)) if "offload" in kinds else None
+        self.leaving = (recording.host or self.drawn.choice(hosts)) if {"offload", "joined"} & kinds else None
         # Over IPv6 a checksum of 0 is none (RFC 8200, section 8.1).
         summed = [host for host in hosts if ":" in host or host in (recording.host, self.leaving)]
         unsummed = [host for host in hosts if host not in summed] if "unsummed" in kinds else []
@@ -112,9 +125,28 @@ class Recorder:
     def often(self, kind: str, chance: float) -> bool:
         return kind in self.kinds and self.drawn.random() < chance
 
+    def bursts(self) -> Iterator[Datagram]:
+        """What passes, where a network card may hand on several datagrams as one. All have the size of the first,
+        but the last, which may be shorter."""
+        held: list[Datagram] = []
+        for it in self.recording.datagrams:
+            if held and not self.goes_on_as_one(held, it):
+                yield joined(held)
+                held = []
+            held.append(it)
+        if held:
+            yield joined(held)
+
+    def goes_on_as_one(self, held: list[Datagram], it: Datagram) -> bool:
+        first, last = held[0], held[-1]
+        is_left = it.source.host == self.leaving and (last.source, last.target) == (it.source, it.target)
+        is_burst = len(first.payload) == len(last.payload) >= len(it.payload) and follows(last.payload, it.payload)
+        size = sum(len(one.payload) for one in (*held, it))
+        return is_left and is_burst and not self.is_parted(bytes(size)) and self.often("joined", 0.7)
+
     def rows(self) -> Iterator[Row]:
         is_in = self.drawn.random() < 0.5
-        for it in self.recording.datagrams:
+        for it in self.bursts():
             if "one_way" in self.kinds and self.is_in(it) != is_in:
                 continue
             if self.often("drops", 0.12):

@@ -1,6 +1,7 @@
 pub mod Frames
 pub mod Named
 pub mod Facts
+pub mod Several
 pub mod Kept
 pub mod Worked
 pub use Rattle.audit_recording.specs.Blame.Frames.{Carried, Framed, datagrams_of, framed, is_seen, seen_as, view_of, whole_of}

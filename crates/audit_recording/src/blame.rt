@@ -14,6 +14,7 @@ mod pace;
 mod passed;
 mod passing;
 mod reason;
+pub(crate) mod several;
 mod stop;
 mod told;
 mod trail;

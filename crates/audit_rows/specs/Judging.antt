@@ -32,8 +32,8 @@ use Rattle.audit_rows.specs.declared.told.Told.{Told}
 use Rattle.audit_rows.specs.declared.viewed.Viewed.{Viewed}
 
 -- What makes a refusal of this transfer doubtful beside the division is what was kept of it: whether all that passed at its client was
--- recorded twice or went one way, its first frame, and the first frames that may be copies, are damaged, have wrong checksums or were left
--- out.
+-- recorded twice or went one way, its first frame, the first frames that may be copies or several datagrams, are damaged, have wrong checksums or
+-- were left out, and whether its client went on with who sent it something first by more than an ERROR.
 pub record AreKeptDoubts (d : Doubted) (t : Trail) (x : Transfer) (named : List ℕ) (carried : List Carried) : Type 0 where
   pub number : d.doubts.number ≡ x.number
   pub is_twice : d.is_twice ≡ are_twice (map sent_of (view_of point.Client x.number named carried))
@@ -42,6 +42,8 @@ pub record AreKeptDoubts (d : Doubted) (t : Trail) (x : Transfer) (named : List 
   pub copied_from : d.copied_from ≡ t.copied_from
   pub damaged : d.damaged ≡ t.damaged
   pub discarded : d.discarded ≡ lesser t.discarded t.spoilt
+  pub joined : d.joined ≡ t.joined
+  pub goes_on : d.goes_on ≡ t.goes_on
   pub left_out : d.left_out ≡ t.left_out
 
 -- It is what there is to say of this transfer by these datagrams of a recording: a verdict at each point where it is judged, on what

@@ -73,7 +73,7 @@ first_is text taken more mid after new d first further opens stands =
     let goes : GoesOn new.header new.lines new.count (taken ++ more) ((new.handed, d) ∷ []) = subst (λ s. StandingTells s new (taken ++ more) ((new.handed, d) ∷ [])) opens stands in
     inl (new.header, (new.handed, d), first_begins text (taken ++ more) new.header new.lines new.count new.handed d after (Consumes-trans (Some text) mid after taken more first further) goes, refl)
 
-whole_read : (text taken : List ℕ) (after : Option (List ℕ)) → Consumes (Some text) after taken → IsAtEnd after → text ≡ taken
+pub whole_read : (text taken : List ℕ) (after : Option (List ℕ)) → Consumes (Some text) after taken → IsAtEnd after → text ≡ taken
 whole_read text taken None consumed end = absurd consumed
 whole_read text taken (Some rest) consumed end = consumed ∙ ap (λ r. taken ++ r) end ∙ append-nil taken
 

@@ -6,4 +6,5 @@ pub mod SidesLemmas
 pub mod VerdictLemmas
 pub mod RecordedLemmas
 pub mod CapturesLemmas
+pub mod UnreadLemmas
 pub mod MatchingLemmas

@@ -9,6 +9,7 @@ use Rattle.tftp_match.specs.Matching.{IsSaidOfBoth, IsSaidOfFiles, IsTakenAs, Is
 use Rattle.tftp_match.specs.declared.choice.Judged.{Judged}
 use Rattle.tftp_match.specs.declared.faults.MatchFault.{MatchFault}
 use Rattle.tftp_match.specs.declared.judging.Matching.{Matching}
+use Rattle.tftp_match.specs.declared.unread.UnreadFault.{UnreadFault}
 use Rattle.tftp_words.specs.declared.match_request.MatchRequest.{MatchRequest}
 
 pub on_some : {A E : Type 0} (r : Result (Option A) E) (P Q : A → Type 0) → ((a : A) → P a → Q a) → IfOk r (λ f. IfSome f P) → IfOk r (λ f. IfSome f Q)
@@ -55,13 +56,13 @@ found_or d (Ok None) = d
 found_or d (Err e) = d
 
 -- what was kept is what was there, and nothing was told
-pub kept_is : {A F E : Type 0} (outcome : Result A F) (result : Result (Option A) E) (a : A) (P : A → Type 0) (Same T : Type 0) → ((value : A) → outcome ≡ Ok value → (result ≡ Ok (Some value)) × Same) → IfErr outcome (λ f. IfOk result (λ found. (found ≡ None) × T))
+pub kept_is : {A F E : Type 0} (outcome : Result A F) (result : Result (Option A) E) (a : A) (P : A → Type 0) (Same : Type 0) (T : F → Type 0) → ((value : A) → outcome ≡ Ok value → (result ≡ Ok (Some value)) × Same) → IfErr outcome (λ f. IfOk result (λ found. (found ≡ None) × T f))
     → result ≡ Ok (Some a) → IfOk outcome P → P a × Same
 kept_is (Ok v) result a P Same T some none is p =
     let kept = some v refl in
     (subst P (ap (found_or a) (sym kept.0 ∙ is)) p, kept.1)
 kept_is (Err f) result a P Same T some none is p =
-    let told = subst (λ r. IfOk r (λ found. (found ≡ None) × T)) is none in
+    let told = subst (λ r. IfOk r (λ found. (found ≡ None) × T f)) is none in
     let off : Some a ≡ None = told.0 in
     absurd (cc)
 
@@ -76,12 +77,12 @@ module _ {E : Type 0} (errors : E → Option (List ℕ)) (r : MatchRequest) (a b
       subst (λ f. IsSaidOfFiles r a.program.now client_named f (errors a.errors.0) after m) other
       (subst (λ f. IsSaidOfFiles r a.program.now f server (errors a.errors.0) after m) one (subst (λ (k : Remarks E). IsSaidOfFiles r k.program.now client server (errors k.errors.0) after m) same said))
 
-  pub named_told : b ≡ a → client ≡ client_named → server ≡ server_named → IsToldOfFiles r b.program.now client server (errors b.errors.0) after → IsToldOfFiles r a.program.now client_named server_named (errors a.errors.0) after
-  named_told same one other told =
-      subst (λ f. IsToldOfFiles r a.program.now client_named f (errors a.errors.0) after) other
-      (subst (λ f. IsToldOfFiles r a.program.now f server (errors a.errors.0) after) one (subst (λ (k : Remarks E). IsToldOfFiles r k.program.now client server (errors k.errors.0) after) same told))
+  pub named_told : (AreWords : UnreadFault → List ℕ → Type 0) → b ≡ a → client ≡ client_named → server ≡ server_named → IsToldOfFiles AreWords r b.program.now client server (errors b.errors.0) after → IsToldOfFiles AreWords r a.program.now client_named server_named (errors a.errors.0) after
+  named_told AreWords same one other told =
+      subst (λ f. IsToldOfFiles AreWords r a.program.now client_named f (errors a.errors.0) after) other
+      (subst (λ f. IsToldOfFiles AreWords r a.program.now f server (errors a.errors.0) after) one (subst (λ (k : Remarks E). IsToldOfFiles AreWords r k.program.now client server (errors k.errors.0) after) same told))
 
-pub says_named : {W E : Type 0} (contents : W → Option (List ℕ)) (errors : E → Option (List ℕ)) (opens : List ℕ → Bool) (holds : List ℕ → Option (List ℕ)) (r : MatchRequest) (old new : Sink W) (remarks told : Remarks E) (m : Matching) (res : Result ℕ MatchFault)
-    → IsSaidOfFiles r remarks.program.now (holds r.client.now) (holds r.server.now) (errors remarks.errors.0) (errors told.errors.0) m → SaysMatching contents r m old new res → MatchesFiles contents errors opens holds r old new remarks told res
-says_named contents errors opens holds r old new remarks told m (Ok status) said says = inl (m, said, says)
-says_named contents errors opens holds r old new remarks told m (Err fault) said says = inl (m, said, says)
+pub says_named : {W E : Type 0} (contents : W → Option (List ℕ)) (errors : E → Option (List ℕ)) (AreWords : UnreadFault → List ℕ → Type 0) (opens : List ℕ → Bool) (holds : List ℕ → Option (List ℕ)) (r : MatchRequest) (old new : Sink W) (remarks told : Remarks E) (m : Matching) (res : Result ℕ MatchFault)
+    → IsSaidOfFiles r remarks.program.now (holds r.client.now) (holds r.server.now) (errors remarks.errors.0) (errors told.errors.0) m → SaysMatching contents r m old new res → MatchesFiles contents errors AreWords opens holds r old new remarks told res
+says_named contents errors AreWords opens holds r old new remarks told m (Ok status) said says = inl (m, said, says)
+says_named contents errors AreWords opens holds r old new remarks told m (Err fault) said says = inl (m, said, says)

@@ -11,6 +11,7 @@ pub mod Copies
 pub mod Objects
 pub mod Saying
 pub mod Recorded
+pub mod Unread
 pub mod Captures
 pub mod Matching
 pub mod Matches

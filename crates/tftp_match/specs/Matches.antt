@@ -12,6 +12,7 @@ use Rattle.tftp_match.specs.declared.faults.MatchFault.{MatchFault}
 use Rattle.tftp_match.specs.declared.faults.MatchFault.TheVariants.{Alloc, Memory, Output, Uncounted}
 use Rattle.tftp_match.specs.declared.judging.Matching.{Matching}
 use Rattle.tftp_match.specs.declared.objects.Captured.{Captured}
+use Rattle.tftp_match.specs.declared.unread.UnreadFault.{UnreadFault}
 use Rattle.tftp_words.specs.declared.match_request.MatchRequest.{MatchRequest}
 
 -- ---- what is written of two captures of which this is said
@@ -32,9 +33,9 @@ module _ {W : Type 0} (contents : W → Option (List ℕ)) (r : MatchRequest) (m
   SaysMatching (Err (Alloc e)) = new ≡ old
   SaysMatching (Err fault) = ⊥
 
--- ---- of two files, of which `holds` says what they hold, and `opens` which are known to open
+-- ---- of two files, of which `holds` says what they hold, and `opens` which are known to open; `AreWords` says which words tell a fault of one
 
-module _ {W E : Type 0} (contents : W → Option (List ℕ)) (errors : E → Option (List ℕ)) (opens : List ℕ → Bool) (holds : List ℕ → Option (List ℕ)) (r : MatchRequest) (old new : Sink W) (remarks told : Remarks E) where
+module _ {W E : Type 0} (contents : W → Option (List ℕ)) (errors : E → Option (List ℕ)) (AreWords : UnreadFault → List ℕ → Type 0) (opens : List ℕ → Bool) (holds : List ℕ → Option (List ℕ)) (r : MatchRequest) (old new : Sink W) (remarks told : Remarks E) where
   abbrev pub before : Option (List ℕ)
   before = errors remarks.errors.0
 
@@ -49,7 +50,7 @@ module _ {W E : Type 0} (contents : W → Option (List ℕ)) (errors : E → Opt
   pub data IsToldOfNamed : Type 0 where
     client_unopened : opens r.client.now ≡ false → IsTold remarks.program.now r.client.now before after → IsToldOfNamed
     server_unopened : opens r.server.now ≡ false → IsTold remarks.program.now r.server.now before after → IsToldOfNamed
-    unsaid : IsToldOfFiles r remarks.program.now (holds r.client.now) (holds r.server.now) before after → IsToldOfNamed
+    unsaid : IsToldOfFiles AreWords r remarks.program.now (holds r.client.now) (holds r.server.now) before after → IsToldOfNamed
 
   -- What the call does.
   abbrev pub MatchesFiles : Result ℕ MatchFault → Type 0

@@ -1,10 +1,11 @@
 -- What comes of two files: what is said of their captures, or what is told on standard error where nothing is.
-use Rattle.std.specs.Prelude.{◌≡◌, ◌⊎◌, ◌==◌, ◌||◌, ℕ, Bool, true, List, Option, Some, None, IfSome, codes, is_some, length}
+use Rattle.std.specs.Prelude.{◌≡◌, ◌⊎◌, ◌==◌, ◌||◌, ℕ, Bool, true, not, List, Option, Some, None, IfSome, codes, is_some, length}
 use Rattle.std.specs.Option.{option_or}
 use Rattle.std.specs.Io.KnownBytes.{Appends}
 use Rattle.tftp_packet.specs.{Client, Server}
 use Rattle.audit_recording.specs.declared.session.fault.TextFault.{TextFault}
 use Rattle.audit_recording.specs.declared.session.requests.Asked.{Asked}
+use Rattle.audit_recording.specs.declared.session.session.Session.{Session}
 use Rattle.tftp_rows.specs.Remarks.{remark_text}
 use Rattle.tftp_match.specs.Captures.{AreAskedIn, Capture, IsAs, IsCaptureOf, IsLackIn, IsNoted, IsTextIn}
 use Rattle.tftp_match.specs.Captures.Capture.{Text, Recording}
@@ -12,12 +13,14 @@ use Rattle.tftp_match.specs.Choice.{IsSaidOf, Texts}
 use Rattle.tftp_match.specs.Given.{lack_words, texts_of}
 use Rattle.tftp_match.specs.Recorded.{IsUnasked}
 use Rattle.tftp_match.specs.Sides.{IsLackTold, IsTaken, IsUntaken, IsUntold}
+use Rattle.tftp_match.specs.Unread.{IsFileFault, IsHeldFault, IsUnreadTold}
 use Rattle.tftp_match.specs.Untaken.{Shown}
 use Rattle.tftp_match.specs.declared.choice.Judged.{Judged}
 use Rattle.tftp_match.specs.declared.faults.MatchFault.{MatchFault}
 use Rattle.tftp_match.specs.declared.faults.MatchFault.TheVariants.{NoClientRecording, NoRecording, NoServerRecording}
 use Rattle.tftp_match.specs.declared.judging.Matching.{Matching}
 use Rattle.tftp_match.specs.declared.texts.LackFault.{LackFault}
+use Rattle.tftp_match.specs.declared.unread.UnreadFault.{UnreadFault}
 use Rattle.tftp_words.specs.declared.match_request.MatchRequest.{MatchRequest}
 
 -- ---- what was asked for
@@ -72,11 +75,15 @@ IsTakenAs r client server judged = (one other : Capture) × IsAs client one × I
 abbrev pub IsUntakenAs : MatchRequest → Capture → Capture → List ℕ → Option (List ℕ) → Option (List ℕ) → Type 0
 IsUntakenAs r client server program before after = (one other : Capture) × IsAs client one × IsAs server other × IsUntakenOf r one other program before after
 
--- why it is not known which transfers were asked for what, as far as the words are known: the text is not read, or the recording has none with
--- the number that is named
-abbrev pub IsUnknown : List ℕ → List ℕ → Option ℕ → Capture → Option (List ℕ) → Option (List ℕ) → Type 0
-IsUnknown program name number (Text held) before after = IsTold program name before after
-IsUnknown program name number (Recording session) before after = (fault : TextFault) × IsUnasked session number fault × IfSome (lack_words (LackFault.Text fault)) (λ w. Appends before after (remark_text program name w))
+-- why it is not known what a recording's transfers were asked for, as far as the words are known: it has none with the number that is named
+abbrev pub IsUnaskedTold : List ℕ → List ℕ → Option ℕ → Session → Option (List ℕ) → Option (List ℕ) → Type 0
+IsUnaskedTold program name number session before after = (fault : TextFault) × IsUnasked session number fault × IfSome (lack_words (LackFault.Text fault)) (λ w. Appends before after (remark_text program name w))
+
+-- why it is not known which transfers were asked for what: a text is not read, whose first datagram is wanted unless the other capture, which
+-- has these, has one alone; or a recording has none with the number that is named
+abbrev pub IsUnknown : (UnreadFault → List ℕ → Type 0) → (List Asked → Type 0) → List ℕ → List ℕ → Option ℕ → Capture → Option (List ℕ) → Option (List ℕ) → Type 0
+IsUnknown AreWords AreOthers program name number (Text held) before after = (others : List Asked) × AreOthers others × IsUnreadTold AreWords (IsHeldFault (not (is_alone others)) held) program name before after
+IsUnknown AreWords AreOthers program name number (Recording session) before after = IsUnaskedTold program name number session before after
 
 -- ---- of two captures that were read
 
@@ -92,11 +99,11 @@ IsSaidOfBoth r client server m =
     (judged : Judged) × IsTakenAs r client server judged × (m.said ≡ judged.said) × (m.client ≡ number_in client judged.client) × (m.server ≡ number_in server judged.server)
 
 -- What is told where nothing is said of them.
-abbrev pub IsToldOfBoth : MatchRequest → Capture → Capture → List ℕ → Option (List ℕ) → Option (List ℕ) → Type 0
-IsToldOfBoth r client server program before after =
+abbrev pub IsToldOfBoth : (UnreadFault → List ℕ → Type 0) → MatchRequest → Capture → Capture → List ℕ → Option (List ℕ) → Option (List ℕ) → Type 0
+IsToldOfBoth AreWords r client server program before after =
     IsUntakenAs r client server program before after
-    ⊎ (IsUnknown program r.client.now r.transfer client before after
-    ⊎ IsUnknown program r.server.now (server_number r client) server before after)
+    ⊎ (IsUnknown AreWords (AreAskedIn (server_number r client) true server) program r.client.now r.transfer client before after
+    ⊎ IsUnknown AreWords (AreAskedIn r.transfer true client) program r.server.now (server_number r client) server before after)
 
 -- Why neither is: a transfer is named of what is no recording.
 abbrev pub IsMisnamed : MatchRequest → Capture → Capture → MatchFault → Type 0
@@ -120,12 +127,13 @@ module _ (r : MatchRequest) (program : List ℕ) (client_file server_file before
   abbrev pub IsSaidOfFiles : Matching → Type 0
   IsSaidOfFiles m = (client server : Capture) × AreRead client server after × IsSaidOfBoth r client server m
 
+module _ (AreWords : UnreadFault → List ℕ → Type 0) (r : MatchRequest) (program : List ℕ) (client_file server_file before after : Option (List ℕ)) where
   -- Nothing is said of them: one of them is not read, or both were; and that is told.
   pub data IsToldOfFiles : Type 0 where
-    client_unread : IsTold program r.client.now before after → IsToldOfFiles
+    client_unread : IsUnreadTold AreWords (IsFileFault client_file) program r.client.now before after → IsToldOfFiles
     server_unread : (client : Capture) (until : Option (List ℕ)) → IsCaptureOf r.services.items client_file client → IsNoted program r.client.now r.services.items client before until
-        → IsTold program r.server.now until after → IsToldOfFiles
-    unsaid : (client server : Capture) (until : Option (List ℕ)) → AreRead client server until → IsToldOfBoth r client server program until after → IsToldOfFiles
+        → IsUnreadTold AreWords (IsFileFault server_file) program r.server.now until after → IsToldOfFiles
+    unsaid : (client server : Capture) (until : Option (List ℕ)) → AreRead r program client_file server_file before after client server until → IsToldOfBoth AreWords r client server program until after → IsToldOfFiles
 
 -- Why neither is: memory ran out, what there is to tell is not told, or a transfer is named of what is no recording.
 abbrev pub IsUnsaidOfFiles : MatchRequest → Option (List ℕ) → Option (List ℕ) → Bool → MatchFault → Type 0

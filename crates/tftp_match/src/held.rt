@@ -1,15 +1,16 @@
 //! A capture text in memory.
 
-ghost use Rattle.std.specs.Prelude.{◌≡◌, IfOk, IfSome, true};
+ghost use Rattle.std.specs.Prelude.{◌≡◌, IfErr, IfOk, IfSome, true};
 ghost use Rattle.tftp_match.specs.Captures.{IsFirstPayload};
+ghost use Rattle.tftp_match.specs.Unread.{IsHeldFault, IsTextFault};
 
 use crate::texts::{LackFault, Text, Texts};
-use anyhow::Result;
+use crate::unread::UnreadFault;
 use audit_recording::session::Asked;
 use net_streams::streams::Latched;
 use std::alloc::Global;
 use std::io::Read;
-use tftp_capture::{CaptureReader, Datagram};
+use tftp_capture::{CaptureFault, CaptureReader, Datagram};
 
 /// A capture text in memory.
 #[derive(Drop)]
@@ -21,9 +22,14 @@ pub struct Held {
 
 impl Held {
     /// All that a reader gives, and the payload of its first datagram, where that is wanted.
-    pub fn read<R: Read + Drop>(alloc: Global, mut reader: R, wants_request: bool) -> Result<Self>
+    pub fn read<R: Read + Drop>(
+        alloc: Global,
+        mut reader: R,
+        wants_request: bool,
+    ) -> Result<Self, UnreadFault>
         ensures bytes { IfOk result (λ held. IfSome (R.Read.remaining reader) (λ text. held.bytes.items ≡ text)) }
         ensures request { wants_request ≡ true → IfOk result (λ held. IsFirstPayload held.bytes.items held.request.items) }
+        ensures why { IfErr result (IsHeldFault wants_request (R.Read.remaining reader)) }
     {
         let mut bytes = Vec::new(alloc);
         reader.read_to_end(&mut bytes)?;
@@ -48,8 +54,9 @@ impl Held {
 }
 
 /// The payload of a text's first datagram; without one nothing.
-fn first_payload(alloc: Global, text: &[u8]) -> Result<Vec<u8>>
-    ensures { IfOk result (λ payload. IsFirstPayload text.now payload.items) }
+fn first_payload(alloc: Global, text: &[u8]) -> Result<Vec<u8>, CaptureFault>
+    ensures payload { IfOk result (λ payload. IsFirstPayload text.now payload.items) }
+    ensures why { IfErr result (IsTextFault text.now) }
 {
     let mut reader = Latched::new(text);
     let mut capture = CaptureReader::begin(alloc, &mut reader)?;

@@ -12,9 +12,10 @@ ghost use Rattle.tftp_rows.specs.Remarks.{remarks_text, rest_lines};
 ghost use Rattle.tftp_rows.specs.Faults.{IsRemarkFault};
 ghost use Rattle.tftp_match.specs.Captures.{IsCaptureOf, IsFirstPayload, IsNoted, capture_of, whole_left};
 ghost use Rattle.tftp_match.specs.Captures.Capture.{Recording, Text as TextCapture};
-ghost use Rattle.tftp_match.specs.Matching.{IsMisnamed, IsSaidOfBoth, IsSaidOfFiles, IsTakenAs, IsTakenOf, IsTold, IsToldOfBoth, IsToldOfFiles, IsUnknown, IsUnsaidOfFiles, IsUntakenOf, is_alone};
+ghost use Rattle.tftp_match.specs.Matching.{IsMisnamed, IsSaidOfBoth, IsSaidOfFiles, IsTakenAs, IsTakenOf, IsToldOfBoth, IsToldOfFiles, IsUnaskedTold, IsUnsaidOfFiles, IsUntakenOf, is_alone};
 ghost use Rattle.tftp_match.specs.Recorded.{AreRecordedRequests};
 ghost use Rattle.tftp_match.specs.Sides.{IsUntold};
+ghost use Rattle.tftp_match.specs.Unread.{AreWordsOf, IsFileFault, IsHeldFault, IsToldAs, IsUnreadTold};
 
 use crate::choice::Judged;
 use crate::choosing::Side;
@@ -24,6 +25,7 @@ use crate::recorded::{Recorded, asked_in};
 use crate::sides::judge_sides;
 use crate::source::{Source, Whole};
 use crate::texts::{LackFault, said_of};
+use crate::unread::{UnreadFault, Worded};
 use audit_recording::session::{Asked, Session};
 use judge_pair::match_texts::PairSaid;
 use std::alloc::Global;
@@ -47,7 +49,7 @@ pub struct Matching {
 }
 
 /// What there is to say of the captures that two readers give; none where one can't be judged, which is told.
-pub fn judge_captures<R: Read + Drop, S: Read + Drop, E: Write + Drop>(
+pub fn judge_captures<F: Worded, R: Read + Drop, S: Read + Drop, E: Write + Drop>(
     alloc: Global,
     request: &MatchRequest<'_>,
     client: R,
@@ -55,21 +57,21 @@ pub fn judge_captures<R: Read + Drop, S: Read + Drop, E: Write + Drop>(
     remarks: &mut Remarks<'_, E>,
 ) -> Result<Option<Matching>, MatchFault>
     ensures said { IfOk result (λ found. IfSome found (IsSaidOfFiles request.now remarks.old.program.now (R.Read.remaining client) (S.Read.remaining server) (E.Write.contents remarks.old.errors.0) (E.Write.contents remarks.new.errors.0))) }
-    ensures told { IfOk result (λ found. IfNone found (IsToldOfFiles request.now remarks.old.program.now (R.Read.remaining client) (S.Read.remaining server) (E.Write.contents remarks.old.errors.0) (E.Write.contents remarks.new.errors.0))) }
+    ensures told { IfOk result (λ found. IfNone found (IsToldOfFiles (AreWordsOf F.from_gives F.output) request.now remarks.old.program.now (R.Read.remaining client) (S.Read.remaining server) (E.Write.contents remarks.old.errors.0) (E.Write.contents remarks.new.errors.0))) }
     ensures fault { IfErr result (IsUnsaidOfFiles request.now (R.Read.remaining client) (S.Read.remaining server) remarks.new.errors.1) }
     ensures same { remarks.new ≡ record remarks.old { errors = remarks.new.errors } }
 {
-    let Some(client) = begun(alloc, request, request.client, client, remarks)? else {
+    let Some(client) = begun::<F, _, _>(alloc, request, request.client, client, remarks)? else {
         return Ok(None);
     };
-    let Some(server) = begun(alloc, request, request.server, server, remarks)? else {
+    let Some(server) = begun::<F, _, _>(alloc, request, request.server, server, remarks)? else {
         return Ok(None);
     };
-    judge_read(alloc, request, client, server, remarks)
+    judge_read::<F, _, _, _>(alloc, request, client, server, remarks)
 }
 
 /// The capture of a file, and a recording is read and told of; none where it is not read, which is told.
-fn begun<R: Read + Drop, E: Write + Drop>(
+fn begun<F: Worded, R: Read + Drop, E: Write + Drop>(
     alloc: Global,
     request: &MatchRequest<'_>,
     file: &str,
@@ -78,12 +80,12 @@ fn begun<R: Read + Drop, E: Write + Drop>(
 ) -> Result<Option<Source<R>>, MatchFault>
     ensures begun { IfOk result (λ found. IfSome found (λ source. IsCaptureOf request.now.services.items (R.Read.remaining reader) (capture_of R.Read.remaining source)
         × IsNoted remarks.old.program.now file.now request.now.services.items (capture_of R.Read.remaining source) (E.Write.contents remarks.old.errors.0) (E.Write.contents remarks.new.errors.0))) }
-    ensures unread { IfOk result (λ found. IfNone found (IsTold remarks.old.program.now file.now (E.Write.contents remarks.old.errors.0) (E.Write.contents remarks.new.errors.0))) }
+    ensures unread { IfOk result (λ found. IfNone found (IsUnreadTold (AreWordsOf F.from_gives F.output) (IsFileFault (R.Read.remaining reader)) remarks.old.program.now file.now (E.Write.contents remarks.old.errors.0) (E.Write.contents remarks.new.errors.0))) }
     ensures fault { IfErr result (IsUntold remarks.new.errors.1) }
     ensures same { remarks.new ≡ record remarks.old { errors = remarks.new.errors } }
 {
     let source = Source::begin(alloc, request.services.as_slice(), reader);
-    let Some(source) = told(remarks, file, source)? else {
+    let Some(source) = told::<F, _, _>(remarks, file, source)? else {
         return Ok(None);
     };
     tell_of(alloc, file, &source, remarks)?;
@@ -125,27 +127,27 @@ fn tell_recording<E: Write + Drop>(
 }
 
 /// What a result has; none where that is a fault, which is told of the file.
-pub fn told<T, E: Write + Drop>(
+pub fn told<F: Worded, T, E: Write + Drop>(
     remarks: &mut Remarks<'_, E>,
     file: &str,
-    outcome: anyhow::Result<T>,
+    outcome: Result<T, UnreadFault>,
 ) -> Result<Option<T>, TellFault>
     ensures some { (value : T) → outcome ≡ Ok value → (result ≡ Ok (Some value)) × (remarks.new ≡ remarks.old) }
-    ensures none { IfErr outcome (λ fault. IfOk result (λ found. (found ≡ None) × IsTold remarks.old.program.now file.now (E.Write.contents remarks.old.errors.0) (E.Write.contents remarks.new.errors.0))) }
+    ensures none { IfErr outcome (λ fault. IfOk result (λ found. (found ≡ None) × IsToldAs (AreWordsOf F.from_gives F.output fault) remarks.old.program.now file.now (E.Write.contents remarks.old.errors.0) (E.Write.contents remarks.new.errors.0))) }
     ensures fault { IfErr result (IsRemarkFault remarks.new.errors.1) }
     ensures same { remarks.new ≡ record remarks.old { errors = remarks.new.errors } }
 {
     match outcome {
         Ok(value) => Ok(Some(value)),
         Err(fault) => {
-            remarks.tell_fault(file, fault)?;
+            remarks.tell_fault(file, F::from(fault))?;
             Ok(None)
         }
     }
 }
 
 /// What there is to say of two captures that were read as far as it is told of them.
-fn judge_read<R: Read + Drop, S: Read + Drop, E: Write + Drop>(
+fn judge_read<F: Worded, R: Read + Drop, S: Read + Drop, E: Write + Drop>(
     alloc: Global,
     request: &MatchRequest<'_>,
     client: Source<R>,
@@ -153,18 +155,20 @@ fn judge_read<R: Read + Drop, S: Read + Drop, E: Write + Drop>(
     remarks: &mut Remarks<'_, E>,
 ) -> Result<Option<Matching>, MatchFault>
     ensures said { IfOk result (λ found. IfSome found (λ m. IsSaidOfBoth request.now (capture_of R.Read.remaining client) (capture_of S.Read.remaining server) m × (remarks.new ≡ remarks.old))) }
-    ensures told { IfOk result (λ found. IfNone found (IsToldOfBoth request.now (capture_of R.Read.remaining client) (capture_of S.Read.remaining server) remarks.old.program.now (E.Write.contents remarks.old.errors.0) (E.Write.contents remarks.new.errors.0))) }
+    ensures told { IfOk result (λ found. IfNone found (IsToldOfBoth (AreWordsOf F.from_gives F.output) request.now (capture_of R.Read.remaining client) (capture_of S.Read.remaining server) remarks.old.program.now (E.Write.contents remarks.old.errors.0) (E.Write.contents remarks.new.errors.0))) }
     ensures fault { IfErr result (λ fault. IsUntold remarks.new.errors.1 fault ⊎ IsMisnamed request.now (capture_of R.Read.remaining client) (capture_of S.Read.remaining server) fault) }
     ensures same { remarks.new ≡ record remarks.old { errors = remarks.new.errors } }
 {
     match client {
-        Source::Text(client) => beside_text(alloc, request, client, server, remarks),
-        Source::Recording(client) => beside_recording(alloc, request, &client, server, remarks),
+        Source::Text(client) => beside_text::<F, _, _, _>(alloc, request, client, server, remarks),
+        Source::Recording(client) => beside_recording::<F, _, _>(
+            alloc, request, &client, server, remarks,
+        ),
     }
 }
 
 /// The same beside a text of the client.
-fn beside_text<R: Read + Drop, S: Read + Drop, E: Write + Drop>(
+fn beside_text<F: Worded, R: Read + Drop, S: Read + Drop, E: Write + Drop>(
     alloc: Global,
     request: &MatchRequest<'_>,
     client: Whole<R>,
@@ -172,21 +176,21 @@ fn beside_text<R: Read + Drop, S: Read + Drop, E: Write + Drop>(
     remarks: &mut Remarks<'_, E>,
 ) -> Result<Option<Matching>, MatchFault>
     ensures said { IfOk result (λ found. IfSome found (λ m. IsSaidOfBoth request.now (TextCapture (whole_left R.Read.remaining client)) (capture_of S.Read.remaining server) m × (remarks.new ≡ remarks.old))) }
-    ensures told { IfOk result (λ found. IfNone found (IsToldOfBoth request.now (TextCapture (whole_left R.Read.remaining client)) (capture_of S.Read.remaining server) remarks.old.program.now (E.Write.contents remarks.old.errors.0) (E.Write.contents remarks.new.errors.0))) }
+    ensures told { IfOk result (λ found. IfNone found (IsToldOfBoth (AreWordsOf F.from_gives F.output) request.now (TextCapture (whole_left R.Read.remaining client)) (capture_of S.Read.remaining server) remarks.old.program.now (E.Write.contents remarks.old.errors.0) (E.Write.contents remarks.new.errors.0))) }
     ensures fault { IfErr result (λ fault. IsUntold remarks.new.errors.1 fault ⊎ IsMisnamed request.now (TextCapture (whole_left R.Read.remaining client)) (capture_of S.Read.remaining server) fault) }
     ensures same { remarks.new ≡ record remarks.old { errors = remarks.new.errors } }
 {
     match server {
         Source::Text(server) => Ok(Some(texts(alloc, request, client, server)?)),
         Source::Recording(server) => {
-            let judged = recorded_server(alloc, request, client, &server, remarks)?;
+            let judged = recorded_server::<F, _, _>(alloc, request, client, &server, remarks)?;
             Ok(numbered(judged, false, true))
         }
     }
 }
 
 /// The same beside a recording of the client.
-fn beside_recording<S: Read + Drop, E: Write + Drop>(
+fn beside_recording<F: Worded, S: Read + Drop, E: Write + Drop>(
     alloc: Global,
     request: &MatchRequest<'_>,
     client: &Session,
@@ -194,17 +198,17 @@ fn beside_recording<S: Read + Drop, E: Write + Drop>(
     remarks: &mut Remarks<'_, E>,
 ) -> Result<Option<Matching>, MatchFault>
     ensures said { IfOk result (λ found. IfSome found (λ m. IsSaidOfBoth request.now (Recording client.now) (capture_of S.Read.remaining server) m × (remarks.new ≡ remarks.old))) }
-    ensures told { IfOk result (λ found. IfNone found (IsToldOfBoth request.now (Recording client.now) (capture_of S.Read.remaining server) remarks.old.program.now (E.Write.contents remarks.old.errors.0) (E.Write.contents remarks.new.errors.0))) }
+    ensures told { IfOk result (λ found. IfNone found (IsToldOfBoth (AreWordsOf F.from_gives F.output) request.now (Recording client.now) (capture_of S.Read.remaining server) remarks.old.program.now (E.Write.contents remarks.old.errors.0) (E.Write.contents remarks.new.errors.0))) }
     ensures fault { IfErr result (λ fault. IsUntold remarks.new.errors.1 fault ⊎ IsMisnamed request.now (Recording client.now) (capture_of S.Read.remaining server) fault) }
     ensures same { remarks.new ≡ record remarks.old { errors = remarks.new.errors } }
 {
     match server {
         Source::Text(server) => {
-            let judged = recorded_client(alloc, request, client, server, remarks)?;
+            let judged = recorded_client::<F, _, _>(alloc, request, client, server, remarks)?;
             Ok(numbered(judged, true, false))
         }
         Source::Recording(server) => {
-            let judged = recordings(alloc, request, client, &server, remarks)?;
+            let judged = recordings::<F, _>(alloc, request, client, &server, remarks)?;
             Ok(numbered(judged, true, true))
         }
     }
@@ -247,7 +251,7 @@ fn texts<R: Read + Drop, S: Read + Drop>(
 }
 
 /// A recording of the client and a text of the server.
-fn recorded_client<S: Read + Drop, E: Write + Drop>(
+fn recorded_client<F: Worded, S: Read + Drop, E: Write + Drop>(
     alloc: Global,
     request: &MatchRequest<'_>,
     client: &Session,
@@ -255,7 +259,7 @@ fn recorded_client<S: Read + Drop, E: Write + Drop>(
     remarks: &mut Remarks<'_, E>,
 ) -> Result<Option<Judged>, MatchFault>
     ensures taken { IfOk result (λ found. IfSome found (λ judged. IsTakenAs request.now (Recording client.now) (TextCapture (whole_left S.Read.remaining server)) judged × (remarks.new ≡ remarks.old))) }
-    ensures told { IfOk result (λ found. IfNone found (IsToldOfBoth request.now (Recording client.now) (TextCapture (whole_left S.Read.remaining server)) remarks.old.program.now (E.Write.contents remarks.old.errors.0) (E.Write.contents remarks.new.errors.0))) }
+    ensures told { IfOk result (λ found. IfNone found (IsToldOfBoth (AreWordsOf F.from_gives F.output) request.now (Recording client.now) (TextCapture (whole_left S.Read.remaining server)) remarks.old.program.now (E.Write.contents remarks.old.errors.0) (E.Write.contents remarks.new.errors.0))) }
     ensures fault { IfErr result (λ fault. IsUntold remarks.new.errors.1 fault ⊎ IsMisnamed request.now (Recording client.now) (TextCapture (whole_left S.Read.remaining server)) fault) }
     ensures same { remarks.new ≡ record remarks.old { errors = remarks.new.errors } }
 {
@@ -265,7 +269,8 @@ fn recorded_client<S: Read + Drop, E: Write + Drop>(
     let Some(asked) = asked_of(alloc, request.client, client, request.transfer, remarks)? else {
         return Ok(None);
     };
-    let Some(held) = held_of(alloc, request.server, server, asked.len() != 1, remarks)? else {
+    let Some(held) = held_of::<F, _, _>(alloc, request.server, server, asked.len() != 1, remarks)?
+    else {
         return Ok(None);
     };
     beside_held_server(alloc, request, client, asked.as_slice(), &held, remarks)
@@ -309,7 +314,7 @@ fn beside_held_server<E: Write + Drop>(
 }
 
 /// A text of the client and a recording of the server, whose transfer either word names.
-fn recorded_server<R: Read + Drop, E: Write + Drop>(
+fn recorded_server<F: Worded, R: Read + Drop, E: Write + Drop>(
     alloc: Global,
     request: &MatchRequest<'_>,
     client: Whole<R>,
@@ -317,7 +322,7 @@ fn recorded_server<R: Read + Drop, E: Write + Drop>(
     remarks: &mut Remarks<'_, E>,
 ) -> Result<Option<Judged>, MatchFault>
     ensures taken { IfOk result (λ found. IfSome found (λ judged. IsTakenAs request.now (TextCapture (whole_left R.Read.remaining client)) (Recording server.now) judged × (remarks.new ≡ remarks.old))) }
-    ensures told { IfOk result (λ found. IfNone found (IsToldOfBoth request.now (TextCapture (whole_left R.Read.remaining client)) (Recording server.now) remarks.old.program.now (E.Write.contents remarks.old.errors.0) (E.Write.contents remarks.new.errors.0))) }
+    ensures told { IfOk result (λ found. IfNone found (IsToldOfBoth (AreWordsOf F.from_gives F.output) request.now (TextCapture (whole_left R.Read.remaining client)) (Recording server.now) remarks.old.program.now (E.Write.contents remarks.old.errors.0) (E.Write.contents remarks.new.errors.0))) }
     ensures fault { IfErr result (λ fault. IsUntold remarks.new.errors.1 fault ⊎ IsMisnamed request.now (TextCapture (whole_left R.Read.remaining client)) (Recording server.now) fault) }
     ensures same { remarks.new ≡ record remarks.old { errors = remarks.new.errors } }
 {
@@ -328,7 +333,8 @@ fn recorded_server<R: Read + Drop, E: Write + Drop>(
     let Some(asked) = asked_of(alloc, request.server, server, number, remarks)? else {
         return Ok(None);
     };
-    let Some(held) = held_of(alloc, request.client, client, asked.len() != 1, remarks)? else {
+    let Some(held) = held_of::<F, _, _>(alloc, request.client, client, asked.len() != 1, remarks)?
+    else {
         return Ok(None);
     };
     beside_held_client(alloc, request, &held, server, asked.as_slice(), remarks)
@@ -372,7 +378,7 @@ fn beside_held_client<E: Write + Drop>(
 }
 
 /// Two recordings.
-fn recordings<E: Write + Drop>(
+fn recordings<F: Worded, E: Write + Drop>(
     alloc: Global,
     request: &MatchRequest<'_>,
     client: &Session,
@@ -380,7 +386,7 @@ fn recordings<E: Write + Drop>(
     remarks: &mut Remarks<'_, E>,
 ) -> Result<Option<Judged>, MatchFault>
     ensures taken { IfOk result (λ found. IfSome found (λ judged. IsTakenAs request.now (Recording client.now) (Recording server.now) judged × (remarks.new ≡ remarks.old))) }
-    ensures told { IfOk result (λ found. IfNone found (IsToldOfBoth request.now (Recording client.now) (Recording server.now) remarks.old.program.now (E.Write.contents remarks.old.errors.0) (E.Write.contents remarks.new.errors.0))) }
+    ensures told { IfOk result (λ found. IfNone found (IsToldOfBoth (AreWordsOf F.from_gives F.output) request.now (Recording client.now) (Recording server.now) remarks.old.program.now (E.Write.contents remarks.old.errors.0) (E.Write.contents remarks.new.errors.0))) }
     ensures fault { IfErr result (IsUntold remarks.new.errors.1) }
     ensures same { remarks.new ≡ record remarks.old { errors = remarks.new.errors } }
 {
@@ -446,7 +452,7 @@ fn asked_of<'a, E: Write + Drop>(
     remarks: &mut Remarks<'_, E>,
 ) -> Result<Option<Vec<Asked<'a>>>, TellFault>
     ensures asked { IfOk result (λ found. IfSome found (λ asked. AreRecordedRequests session.now number asked.items × (remarks.new ≡ remarks.old))) }
-    ensures unknown { IfOk result (λ found. IfNone found (IsUnknown remarks.old.program.now file.now number (Recording session.now) (E.Write.contents remarks.old.errors.0) (E.Write.contents remarks.new.errors.0))) }
+    ensures unknown { IfOk result (λ found. IfNone found (IsUnaskedTold remarks.old.program.now file.now number session.now (E.Write.contents remarks.old.errors.0) (E.Write.contents remarks.new.errors.0))) }
     ensures fault { IfErr result (IsRemarkFault remarks.new.errors.1) }
     ensures same { remarks.new ≡ record remarks.old { errors = remarks.new.errors } }
 {
@@ -460,7 +466,7 @@ fn asked_of<'a, E: Write + Drop>(
 }
 
 /// A text in memory, with its request, where that is wanted; none where it is not read, which is told.
-fn held_of<R: Read + Drop, E: Write + Drop>(
+fn held_of<F: Worded, R: Read + Drop, E: Write + Drop>(
     alloc: Global,
     file: &str,
     text: R,
@@ -469,10 +475,10 @@ fn held_of<R: Read + Drop, E: Write + Drop>(
 ) -> Result<Option<Held>, TellFault>
     ensures held { IfOk result (λ found. IfSome found (λ held. IfSome (R.Read.remaining text) (λ bytes. held.bytes.items ≡ bytes)
         × (wants_request ≡ true → IsFirstPayload held.bytes.items held.request.items) × (remarks.new ≡ remarks.old))) }
-    ensures unread { IfOk result (λ found. IfNone found (IsTold remarks.old.program.now file.now (E.Write.contents remarks.old.errors.0) (E.Write.contents remarks.new.errors.0))) }
+    ensures unread { IfOk result (λ found. IfNone found (IsUnreadTold (AreWordsOf F.from_gives F.output) (IsHeldFault wants_request (R.Read.remaining text)) remarks.old.program.now file.now (E.Write.contents remarks.old.errors.0) (E.Write.contents remarks.new.errors.0))) }
     ensures fault { IfErr result (IsRemarkFault remarks.new.errors.1) }
     ensures same { remarks.new ≡ record remarks.old { errors = remarks.new.errors } }
 {
     let held = Held::read(alloc, text, wants_request);
-    told(remarks, file, held)
+    told::<F, _, _>(remarks, file, held)
 }

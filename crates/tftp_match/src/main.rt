@@ -20,10 +20,11 @@ mod sides;
 mod source;
 mod texts;
 mod told;
+mod unread;
 mod verdict;
 
 use crate::matching::match_files;
-use anyhow::Result;
+use anyhow::{Error, Result};
 use audit_recording::session::ended;
 use net_streams::streams::LineWriter;
 use std::io;
@@ -55,6 +56,12 @@ fn matched(rt: HostRuntime, request: &MatchRequest<'_>) -> Result<u8> {
     let machine = Machine::new(rt);
     let mut writer = LineWriter::new(rt.alloc(), io::writer(&rt));
     let mut remarks = Remarks::new(PROGRAM, rt.stderr());
-    let status = match_files(rt.alloc(), &machine, request, &mut writer, &mut remarks)?;
+    let status = match_files::<Error, _, _, _>(
+        rt.alloc(),
+        &machine,
+        request,
+        &mut writer,
+        &mut remarks,
+    )?;
     Ok(status)
 }

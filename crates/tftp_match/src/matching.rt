@@ -4,6 +4,7 @@ ghost use Rattle.std.specs.Prelude.{◌≡◌, false, IfErr, IfNone, IfOk, IfSom
 ghost use Rattle.tftp_rows.specs.Faults.{IsRemarkFault};
 ghost use Rattle.tftp_match.specs.Matches.{MatchesFiles, SaysMatching};
 ghost use Rattle.tftp_match.specs.Matching.{IsTold};
+ghost use Rattle.tftp_match.specs.Unread.{AreWordsOf};
 
 use crate::copies::copies_of;
 use crate::facts::status_of;
@@ -11,6 +12,7 @@ use crate::faults::MatchFault;
 use crate::judging::{Matching, judge_captures};
 use crate::objects::Captured;
 use crate::saying::{SayFault, say};
+use crate::unread::Worded;
 use net_streams::streams::LineWriter;
 use std::alloc::Global;
 use std::io::Write;
@@ -19,14 +21,14 @@ use tftp_words::MatchRequest;
 
 /// Writes what there is to say of the captures in the files that are named, and answers the status: 0 where one run of the two ends has
 /// both, 1 where none has, and 2 after a fault. Where nothing is said of them it tells why on standard error.
-pub fn match_files<O: Outside, W: Write, E: Write + Drop>(
+pub fn match_files<F: Worded, O: Outside, W: Write, E: Write + Drop>(
     alloc: Global,
     outside: &O,
     request: &MatchRequest<'_>,
     writer: &mut LineWriter<W>,
     remarks: &mut Remarks<'_, E>,
 ) -> Result<u8, MatchFault>
-    ensures { MatchesFiles W.contents E.Write.contents (O.opens outside.now) (O.holds outside.now) request.now writer.old writer.new remarks.old remarks.new result }
+    ensures { MatchesFiles W.contents E.Write.contents (AreWordsOf F.from_gives F.output) (O.opens outside.now) (O.holds outside.now) request.now writer.old writer.new remarks.old remarks.new result }
 {
     let Some(client) = opened(outside, request.client, remarks)? else {
         return Ok(2);
@@ -34,7 +36,7 @@ pub fn match_files<O: Outside, W: Write, E: Write + Drop>(
     let Some(server) = opened(outside, request.server, remarks)? else {
         return Ok(2);
     };
-    match judge_captures(alloc, request, client, server, remarks)? {
+    match judge_captures::<F, _, _, _>(alloc, request, client, server, remarks)? {
         Some(matching) => say_matching(alloc, request, &matching, writer),
         None => Ok(2),
     }

@@ -171,6 +171,8 @@ module _ (named : List ℕ) (carried : List Carried) (x : Transfer) (opens : ope
       copied_from = was.kept.copied_from;
       damaged = was.kept.damaged;
       discarded = was.kept.discarded;
+      joined = was.kept.joined;
+      goes_on = was.kept.goes_on;
       left_out = was.kept.left_out;
     };
     at_client = was.at_client;

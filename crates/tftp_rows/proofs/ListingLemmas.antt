@@ -55,6 +55,8 @@ kept_nowhere t judging x named carried is = record {
   copied_from = is.copied_from;
   damaged = is.damaged;
   spoilt = is.spoilt;
+  joined = is.joined;
+  goes_on = is.goes_on;
   closing = is.closing;
   blame = record { client = λ no. absurd (false≢true no); server = λ no. absurd (false≢true no) };
 }

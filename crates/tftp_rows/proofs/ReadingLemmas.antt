@@ -52,7 +52,7 @@ at_least m n k le many = grind arith
 
 pub many_frames : {Q : List ℕ → Type 0} (file left : Option (List ℕ)) (recording : RecordingState) (history : List Step) (n : ℕ) → (bytes : List ℕ) × Consumes file left bytes × StandsFor recording bytes history × Q bytes → n ≤ length history
     → 2 ^ 64 - 1 ≤ n → HasManyFrames file
-many_frames file left recording history n read many enough = (history, inr (recording, read.0, left, read.1, read.2), at_least (2 ^ 64 - 1) n (length history) enough many)
+many_frames file left recording history n read many enough = (history, (recording, read.0, left, read.1, read.2), at_least (2 ^ 64 - 1) n (length history) enough many)
 
 module _ {W : Type 0} (contents : W → Option (List ℕ)) (lose : Bool) where
   -- so many frames at least were read, and told as they should be

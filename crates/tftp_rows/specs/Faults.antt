@@ -1,8 +1,6 @@
 -- Why a file is not told, or not to its end, and what each such fault rests on. That memory was refused, or that a read failed, nothing shows.
-use Rattle.std.specs.Prelude.{◌≡◌, ◌≤◌, ◌^◌, ◌-◌, ℕ, Bool, true, List, Option, Some, length}
-use Rattle.net_udp.specs.Recording.{Step}
-use Rattle.audit_recording.specs.Session.Opened.{IsReadFaultOf}
-use Rattle.tftp_rows.specs.Whole.{WereRead}
+use Rattle.std.specs.Prelude.{◌≡◌, ◌≤◌, ◌^◌, ◌-◌, ℕ, Bool, true, List, Option, Some}
+use Rattle.audit_recording.specs.Session.Opened.{HasFrames, IsReadFaultOf}
 use Rattle.tftp_rows.specs.declared.printing.PrintFault.{PrintFault}
 use Rattle.tftp_rows.specs.declared.reading.TellFault.{TellFault}
 
@@ -23,7 +21,7 @@ IsRemarkFault unheard _ = ⊥
 
 -- so many of its frames were read as 64 bits count
 abbrev pub HasManyFrames : Option (List ℕ) → Type 0
-HasManyFrames file = (history : List Step) × WereRead file history × (2 ^ 64 - 1 ≤ length history)
+HasManyFrames file = HasFrames file (2 ^ 64 - 1)
 
 -- A recording's transfers are not told, or not all: memory was refused; it is not read, for a reason that it gives; a row is not printed; so many were told as 64 bits
 -- count; or it has as many frames.

@@ -1,7 +1,7 @@
 -- What each reason says.
 use Rattle.std.specs.Prelude.{ℕ, ◌==◌, ◌++◌, List, [], codes, decimal, if◌then◌else◌}
 use Rattle.audit_recording.specs.declared.blame.reason.Reason.{Reason}
-use Rattle.audit_recording.specs.declared.blame.reason.Reason.TheVariants.{AnsweredApart, AskedAgain, Beside, Copied, Damaged, Discarded, Disordered, Dropped, FirstWord, FollowsStrays, FollowsUnanswered, GoesOver, Late, LedAstray, LeftOut, Lost, OneWay, SpeaksFirst, Stranger, Twice, UnknownId, Unplaced, Unseen}
+use Rattle.audit_recording.specs.declared.blame.reason.Reason.TheVariants.{AnsweredApart, AskedAgain, Beside, Copied, Damaged, Discarded, Disordered, Dropped, FirstWord, FollowsStrays, FollowsUnanswered, GoesOver, Joined, Late, LedAstray, LeftOut, Lost, OneWay, SpeaksFirst, Stranger, TurnedAway, Twice, UnknownId, Unplaced, Unseen}
 
 -- of one that names no frame and no number
 abbrev pub words_of : Reason → List ℕ
@@ -13,6 +13,7 @@ words_of AskedAgain = codes "its client had asked the same and sent nothing else
 words_of FollowsStrays = codes "something passed at its client's endpoint before its request: another transfer was under way, it may be"
 words_of FollowsUnanswered = codes "nobody had answered for sure what its client asked for before: what comes may be the late answer"
 words_of LedAstray = codes "its client did not go on with who sent it something first"
+words_of TurnedAway = codes "its client had asked before, and sent an ERROR alone to who sent it something first"
 words_of UnknownId = codes "it is an ERROR 5, by which an end answers what is none of its transfer"
 words_of SpeaksFirst = codes "its client had heard nothing from there"
 words_of FirstWord = codes "its client spoke before anything came to it: the recording began later, it may be"
@@ -27,6 +28,7 @@ words_of (Lost frame) = []
 words_of (Copied frame) = []
 words_of (Damaged frame) = []
 words_of (Discarded frame) = []
+words_of (Joined frame) = []
 words_of (Dropped count) = []
 
 -- one packet or several, at least 1
@@ -39,5 +41,6 @@ reason_text (Lost frame) = codes "frame " ++ decimal frame ++ codes " is not the
 reason_text (Copied frame) = codes "frame " ++ decimal frame ++ codes " may be a copy of the one before"
 reason_text (Damaged frame) = codes "frame " ++ decimal frame ++ codes " was received with an error, so that its host discarded it"
 reason_text (Discarded frame) = codes "frame " ++ decimal frame ++ codes " has a wrong checksum, so that its host may have discarded it"
+reason_text (Joined frame) = codes "frame " ++ decimal frame ++ codes " may be several datagrams that were recorded as one"
 reason_text (Dropped count) = dropped_text count
 reason_text reason = words_of reason

@@ -16,7 +16,7 @@ use Rattle.audit_recording.specs.Session.Beside.{IsMarkedBy, Mark, discarded_bes
 use Rattle.audit_recording.specs.Session.Heard.{IsUndeliveredOf}
 use Rattle.audit_recording.specs.Session.Kept.{IsSessionAfter}
 use Rattle.audit_recording.specs.Session.Noted.{AreNotesOf, Noticed, frames_in, giving_up, stretch_of}
-use Rattle.audit_recording.specs.Session.Opened.{HasEnded, IsSessionClosed, lost_in}
+use Rattle.audit_recording.specs.Session.Opened.{BeginsWith, HasEnded, IsSessionClosed, lost_in}
 use Rattle.audit_recording.specs.Session.Over.{IsOver}
 use Rattle.audit_recording.specs.Session.Recording.{IsNoticedOf, reached_by}
 use Rattle.audit_recording.specs.declared.blame.missing.Missing.{Missing}
@@ -173,8 +173,7 @@ IsEndOf file all end =
 
 -- it begins with these frames, or none was read
 abbrev pub WereRead : Option (List ℕ) → List Step → Type 0
-WereRead file history =
-    (history ≡ []) ⊎ ((recording : RecordingState) × (bytes : List ℕ) × (left : Option (List ℕ)) × Consumes file left bytes × StandsFor recording bytes history)
+WereRead file history = (history ≡ []) ⊎ BeginsWith file history
 
 -- it begins as a classic recording does, which tells of no lost packets
 abbrev pub IsClassic : Option (List ℕ) → Type 0

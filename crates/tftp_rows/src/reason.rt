@@ -38,6 +38,12 @@ impl fmt::Display for ReasonWords {
                     "frame {frame} has a wrong checksum, so that its host may have discarded it"
                 )
             }
+            Reason::Joined(frame) => {
+                write!(
+                    f,
+                    "frame {frame} may be several datagrams that were recorded as one"
+                )
+            }
             Reason::Dropped(1) => f.write_str("the recorder lost 1 packet"),
             Reason::Dropped(count) => write!(f, "the recorder lost {count} packets"),
             reason => f.write_str(words_of(reason)),
@@ -66,6 +72,9 @@ fn words_of(reason: Reason) -> &'static str
             "nobody had answered for sure what its client asked for before: what comes may be the late answer"
         }
         Reason::LedAstray => "its client did not go on with who sent it something first",
+        Reason::TurnedAway => {
+            "its client had asked before, and sent an ERROR alone to who sent it something first"
+        }
         Reason::UnknownId => {
             "it is an ERROR 5, by which an end answers what is none of its transfer"
         }
@@ -84,6 +93,7 @@ fn words_of(reason: Reason) -> &'static str
         Reason::Stranger => "neither its client nor its server sent the datagram",
         Reason::Twice => "each of its datagrams stands beside its equal: recorded twice",
         Reason::LeftOut(_) | Reason::Lost(_) | Reason::Copied(_) => "",
-        Reason::Damaged(_) | Reason::Discarded(_) | Reason::Dropped(_) => "",
+        Reason::Damaged(_) | Reason::Discarded(_) => "",
+        Reason::Joined(_) | Reason::Dropped(_) => "",
     }
 }

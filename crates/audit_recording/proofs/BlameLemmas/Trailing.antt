@@ -13,9 +13,11 @@ use Rattle.audit_recording.specs.declared.judges.judging.Judging.{Judging}
 use Rattle.audit_recording.specs.declared.rows.row.Point.TheVariants.{Client, Server, Between}
 use Rattle.audit_recording.specs.Judges.{rollover_of}
 use Rattle.audit_recording.specs.Blame.Frames.{Carried, Framed, framed, framed_after, view_of, whole_of}
-use Rattle.audit_recording.specs.Blame.Kept.{IsBlameOf, IsNoted, IsPassing, IsTrailBetween, IsTrailOf, comes_to, first_frame, is_about_it, is_copied, is_damaged, is_spoilt, is_wrong, last_frame, last_time_in, passed_of, sent_of}
+use Rattle.audit_recording.specs.Blame.Kept.{IsBlameOf, IsNoted, IsPassing, IsTrailBetween, IsTrailOf, comes_to, first_frame, has_several, is_about_it, is_copied, is_damaged, is_spoilt, is_wrong, last_frame, last_time_in, passed_of, sent_of}
 use Rattle.audit_recording.specs.Reasons.Twice.{IsTwiceAfter, sent}
 use Rattle.audit_recording.specs.Blame.Facts.{blamed_of, has_gone_on, is_for_server}
+use Rattle.audit_recording.specs.Blame.Several.{is_joined}
+use Rattle.audit_recording.specs.Reasons.Listed.{goes_on_by_more}
 use Rattle.audit_recording.specs.Blame.Named.{is_named, named_in, names_option, with_named}
 use Rattle.audit_recording.specs.Endings.Kept.{IsClosingOf}
 use Rattle.audit_recording.specs.declared.blame.passed.Passed.{Passed}
@@ -48,12 +50,25 @@ module _ (n : ℕ) (d : Recorded) (now : ℕ) where
   opens_by (Opens x) off = off
   opens_by _ off = refl
 
+  going_by : (older : List Placed) (place : Place) → is_about n (record { datagram = d; moment = now; place = place }) ≡ true
+      → (is_of n (record { datagram = d; moment = now; place = place }) && goes_on_by_more (record { datagram = d; moment = now; place = place }) older) ≡ goes_on_by_more (record { datagram = d; moment = now; place = place }) older
+  going_by older (Opens x) about = ap (λ b. b && goes_on_by_more (record { datagram = d; moment = now; place = Opens x }) older) about
+  going_by older (Repeats x) about = ap (λ b. b && goes_on_by_more (record { datagram = d; moment = now; place = Repeats x }) older) about
+  going_by older (Talks x) about = ap (λ b. b && goes_on_by_more (record { datagram = d; moment = now; place = Talks x }) older) about
+  going_by older (Apart c) about = refl
+  going_by older (Beside x) about = refl
+  going_by older Nowhere about = refl
+
   says_by : (place : Place) → begins_unknown_id d.payload ≡ false → says_unknown_id (record { datagram = d; moment = now; place = place }) ≡ false
   says_by (Talks x) off = off
   says_by _ off = refl
 
 pub own_about : (n : ℕ) (p : Placed) → is_about n p ≡ true → is_of n p ≡ is_some (transfer_of p.place)
 own_about n p = own_by n p.datagram p.moment p.place
+
+-- by one that is about it its client goes on, or not
+going_about : (n : ℕ) (p : Placed) (older : List Placed) → is_about n p ≡ true → (is_of n p && goes_on_by_more p older) ≡ goes_on_by_more p older
+going_about n p older = going_by n p.datagram p.moment older p.place
 
 -- ---- what tells of strays
 
@@ -138,6 +153,15 @@ gone_unheard x [] unheard = refl
 gone_unheard x (p ∷ whole) unheard = by_test (is_about x.number p)
     (λ is. let both : p ∷ filter (is_about x.number) whole ≡ [] = sym (filter_one (is_about x.number) p whole is) ∙ unheard in absurd (cc))
     (λ off. gone_same x p whole off ∙ gone_unheard x whole (sym (filter_none (is_about x.number) p whole off) ∙ unheard))
+
+going_same : (n : ℕ) (p : Placed) (whole : List Placed) → is_about n p ≡ false → some_of n goes_on_by_more (p ∷ whole) ≡ some_of n goes_on_by_more whole
+going_same n p whole off = ap (λ b. (b && goes_on_by_more p whole) || some_of n goes_on_by_more whole) (about_none n p off)
+
+going_unheard : (n : ℕ) (whole : List Placed) → filter (is_about n) whole ≡ [] → some_of n goes_on_by_more whole ≡ false
+going_unheard n [] unheard = refl
+going_unheard n (p ∷ whole) unheard = by_test (is_about n p)
+    (λ is. let both : p ∷ filter (is_about n) whole ≡ [] = sym (filter_one (is_about n) p whole is) ∙ unheard in absurd (cc))
+    (λ off. going_same n p whole off ∙ going_unheard n whole (sym (filter_none (is_about n) p whole off) ∙ unheard))
 
 -- what is not about it names nothing of it
 is_named_same : (name : List ℕ) (x : Transfer) (p : Placed) (whole : List Placed) → is_about x.number p ≡ false → is_named name x (p ∷ whole) ≡ is_named name x whole
@@ -227,6 +251,8 @@ module _ (old mid new : Trail) (judging : Judging) (x : Transfer) (named : List 
     pub copied_from : mid.copied_from ≡ old.copied_from
     pub damaged : mid.damaged ≡ old.damaged
     pub spoilt : mid.spoilt ≡ old.spoilt
+    pub joined : mid.joined ≡ old.joined
+    pub goes_on : mid.goes_on ≡ old.goes_on
     pub options : mid.options ≡ old.options
     pub told : IsTold mid x (view_of Client x.number named (c ∷ carried))
 
@@ -245,6 +271,8 @@ module _ (old mid new : Trail) (judging : Judging) (x : Transfer) (named : List 
           copied_from = ap (λ (t : Trail). t.copied_from) same;
           damaged = ap (λ (t : Trail). t.damaged) same;
           spoilt = ap (λ (t : Trail). t.spoilt) same;
+          joined = ap (λ (t : Trail). t.joined) same;
+          goes_on = ap (λ (t : Trail). t.goes_on) same;
           options = ap (λ (t : Trail). t.options) same;
           told = subst (λ (t : Trail). IsTold t x (view_of Client x.number named (c ∷ carried))) (sym same) (subst (IsTold old x) (sym view_same) tells);
         }
@@ -257,6 +285,8 @@ module _ (old mid new : Trail) (judging : Judging) (x : Transfer) (named : List 
           copied_from = noted.copied_from;
           damaged = noted.damaged;
           spoilt = noted.spoilt;
+          joined = noted.joined;
+          goes_on = noted.goes_on;
           options = noted.options;
           told = subst (IsTold mid x) (sym view_more) (told_own old mid x f passing view was.transfer passes refl noted tells);
         }
@@ -304,16 +334,23 @@ module _ (old mid new : Trail) (judging : Judging) (x : Transfer) (named : List 
         ∙ (λ i. (same_endpoint (passes.source i) (was.transfer i).client && is_for_server (passes.payload i)) || was.has_gone_on i)
         ∙ ap among (sym (is_own ∙ ap is_some is))
 
+  -- its client has gone on by more than an ERROR by then, or not
+  pub going_at : (place : Place) → place ≡ f.placed.place → (IsSome (transfer_of place) → IsNoted old mid passing) → (transfer_of place ≡ None → mid ≡ old)
+      → (goes_on_by_more f.placed (whole_of named carried) || mid.goes_on) ≡ some_of x.number goes_on_by_more (whole_of named (c ∷ carried))
+  going_at place at own beside =
+      λ i. sym (going_about x.number f.placed (whole_of named carried) about) i || ((noted_at place at own beside).goes_on ∙ was.goes_on) i
+
   pub trail_more : (place : Place) → place ≡ f.placed.place → (IsSome (transfer_of place) → IsNoted old mid passing) → (transfer_of place ≡ None → mid ≡ old)
       → new.transfer ≡ mid.transfer → new.first ≡ mid.first → new.last ≡ mid.last → new.count ≡ mid.count → new.last_time ≡ mid.last_time → new.is_answered ≡ mid.is_answered
       → new.copied_from ≡ or_this mid.copied_from passing.is_doubtful passing.frame → new.damaged ≡ or_this mid.damaged passing.has_error passing.frame
-      → new.spoilt ≡ or_this mid.spoilt passing.has_wrong_checksum passing.frame
+      → new.spoilt ≡ or_this mid.spoilt passing.has_wrong_checksum passing.frame → new.joined ≡ or_this mid.joined passing.is_joined passing.frame
+      → new.goes_on ≡ some_of x.number goes_on_by_more (whole_of named (c ∷ carried))
       → new.ends.number ≡ x.number → AreEndsAfter new.ends (whole_of named (c ∷ carried)) → (opened_it x.number f.placed ≡ true → c.frame ≡ old.first)
       → new.has_gone_on ≡ has_gone_on x (whole_of named (c ∷ carried)) → new.options ≡ named_in x (whole_of named (c ∷ carried))
       → IsTwiceAfter new.twice (map sent_of (view_of Client x.number named (c ∷ carried)))
       → IsClosingOf new.closing x (view_of Client x.number named (c ∷ carried))
       → IsBlameOf new.blame judging x (whole_of named (c ∷ carried)) (framed named (c ∷ carried)) → IsTrailOf new judging x named (c ∷ carried)
-  trail_more place at own beside transfer first last count last_time is_answered copied_from damaged spoilt number ends opens gone names twice closing blame =
+  trail_more place at own beside transfer first last count last_time is_answered copied_from damaged spoilt joined going number ends opens gone names twice closing blame =
       let m = noted_at place at own beside in
       let frames = framed named carried in
       record {
@@ -335,6 +372,9 @@ module _ (old mid new : Trail) (judging : Judging) (x : Transfer) (named : List 
             (and_first (is_about x.number f.placed) passing.has_error c.has_error about passes.has_error) passes.frame;
         spoilt = spoilt ∙ first_one (is_spoilt x.number) f frames mid.spoilt passing.has_wrong_checksum passing.frame (m.spoilt ∙ was.spoilt)
             (and_first (is_about x.number f.placed) passing.has_wrong_checksum (is_wrong c.checksum) about passes.has_wrong_checksum) passes.frame;
+        joined = joined ∙ first_one (has_several x.number) f frames mid.joined passing.is_joined passing.frame (m.joined ∙ was.joined)
+            (and_first (is_about x.number f.placed) passing.is_joined (is_joined c.checksum c.datagram.payload) about passes.is_joined) passes.frame;
+        goes_on = going;
         closing = closing;
         blame = blame;
       }
@@ -375,6 +415,8 @@ trail_passed_by t judging x named c carried off was =
       copied_from = was.copied_from ∙ sym (first_same (is_copied x.number) f frames (and_none (is_about x.number f.placed) c.is_doubtful off));
       damaged = was.damaged ∙ sym (first_same (is_damaged x.number) f frames (and_none (is_about x.number f.placed) c.has_error off));
       spoilt = was.spoilt ∙ sym (first_same (is_spoilt x.number) f frames (and_none (is_about x.number f.placed) (is_wrong c.checksum) off));
+      joined = was.joined ∙ sym (first_same (has_several x.number) f frames (and_none (is_about x.number f.placed) (is_joined c.checksum c.datagram.payload) off));
+      goes_on = was.goes_on ∙ sym (going_same x.number f.placed (whole_of named carried) off);
       closing = subst (IsClosingOf t.closing x) (sym view_same) was.closing;
       blame = blame_passed_by t.blame judging x f (whole_of named carried) frames off was.blame;
     }
@@ -388,9 +430,9 @@ between_passed_by t judging x named c carried off was there =
 
 pub trail_new : (t : Trail) (judging : Judging) (x : Transfer) (named : List ℕ) (carried : List Carried) → filter (is_about_it x.number) (framed named carried) ≡ []
     → t.transfer ≡ x → t.ends.number ≡ x.number → AreEndsAfter t.ends [] → t.last ≡ t.first → t.count ≡ 0 → t.last_time ≡ 0 → t.is_answered ≡ false → t.has_gone_on ≡ false → t.options ≡ record { windows = false; sizes = false } → t.copied_from ≡ None → t.damaged ≡ None
-    → t.spoilt ≡ None
+    → t.spoilt ≡ None → t.joined ≡ None → t.goes_on ≡ false
     → IsTwiceAfter t.twice [] → IsClosingOf t.closing x [] → IsBlameOf t.blame judging x (whole_of named carried) (framed named carried) → IsTrailOf t judging x named carried
-trail_new t judging x named carried unheard transfer number ends last count last_time is_answered gone names copied_from damaged spoilt twice closing blame =
+trail_new t judging x named carried unheard transfer number ends last count last_time is_answered gone names copied_from damaged spoilt joined going twice closing blame =
     let frames = framed named carried in
     let none : view_of Client x.number named carried ≡ [] = view_unheard x.number frames unheard in
     record {
@@ -408,6 +450,8 @@ trail_new t judging x named carried unheard transfer number ends last count last
       copied_from = copied_from ∙ sym (no_first x.number (is_copied x.number) (λ f off. and_none (is_about x.number f.placed) f.carried.is_doubtful off) frames unheard);
       damaged = damaged ∙ sym (no_first x.number (is_damaged x.number) (λ f off. and_none (is_about x.number f.placed) f.carried.has_error off) frames unheard);
       spoilt = spoilt ∙ sym (no_first x.number (is_spoilt x.number) (λ f off. and_none (is_about x.number f.placed) (is_wrong f.carried.checksum) off) frames unheard);
+      joined = joined ∙ sym (no_first x.number (has_several x.number) (λ f off. and_none (is_about x.number f.placed) (is_joined f.carried.checksum f.carried.datagram.payload) off) frames unheard);
+      goes_on = going ∙ sym (going_unheard x.number (whole_of named carried) (whole_unheard x.number named carried unheard));
       closing = subst (IsClosingOf t.closing x) (sym none) closing;
       blame = blame;
     }

@@ -1,5 +1,5 @@
 -- What is kept of all transfers, with one datagram more.
-use Rattle.std.proofs.Common.{rules, arith, All, ◌≡◌, ◌≤◌, ◌<◌, ℕ, Bool, true, false, cond, List, [], ◌∷◌, length, Option, Some, None, ◌⊎◌, inl, inr, refl, sym, ap, subst, ◌∙◌, ◌==◌, ◌&&◌, ◌||◌, not, IsSome, if◌then◌else◌}
+use Rattle.std.proofs.Common.{rules, arith, All, ◌≡◌, ◌≤◌, ◌<◌, ◌+◌, ◌^◌, ℕ, Bool, true, false, cond, List, [], ◌∷◌, length, Option, Some, None, ◌⊎◌, inl, inr, refl, sym, ap, subst, ◌∙◌, ◌==◌, ◌&&◌, ◌||◌, not, IsSome, if◌then◌else◌}
 use Rattle.std.specs.BTreeMap.{get, is_at, BTreeMap, IsLowerBound, IsUnchanged}
 use Rattle.std.specs.Map.{lookup}
 use Rattle.std.specs.Ordering.{is_eq, is_gt, nat_cmp}
@@ -11,7 +11,8 @@ use Rattle.audit_flows.specs.Transfers.{place_of, placed, is_about, opened_it, i
 use Rattle.audit_flows.proofs.LinesLemmas.Lines.{by_test}
 use Rattle.audit_flows.proofs.TransfersLemmas.Numbers.{none_answers_before, none_before, opening_number, length_placed}
 use Rattle.audit_views.specs.Views.{Naming}
-use Rattle.audit_recording.specs.Judges.{AreCrowded, AreHanded, AreKept, IsCrowded, IsKept, IsNew, IsWatching, Watched, WereOpened, is_among, opened}
+use Rattle.audit_recording.specs.Judges.{AreCrowded, AreHanded, AreKept, HaveAtMost, IsCrowded, IsKept, IsNew, IsWatching, Judges, RecordingJudge, StandsAfter, Watched, WereOpened, is_among, opened}
+use Rattle.audit_recording.specs.Judges.Kept.{fed_at_client, fed_at_server, fed_between}
 use Rattle.audit_recording.specs.declared.judges.judging.Judging.{Judging}
 use Rattle.audit_recording.proofs.JudgesLemmas.Watching.{watching_on, watching_unheard}
 
@@ -261,3 +262,28 @@ least_kept watched judging name out all k n least some here kept = at_most k n (
 
   at_most : (k n : ℕ) → is_gt (nat_cmp k n) ≡ false → k ≤ n
   at_most k n off = search rules
+
+-- ---- a judge has no more datagrams than have passed
+
+at_least : (m n k : ℕ) → m ≤ n → n ≤ k → m ≤ k
+at_least m n k le up = grind arith
+
+many_fed : (j : Judges) (n : ℕ) → HaveAtMost j n → IsCrowded j → 2 ^ 40 ≤ n
+many_fed j n few (inl many) = at_least (2 ^ 40) (fed_at_client j.client) n many few.client
+many_fed j n few (inr (inl many)) = at_least (2 ^ 40) (fed_at_server j.server) n many few.server
+many_fed j n few (inr (inr many)) = at_least (2 ^ 40) (fed_between j.between) n many few.between
+
+crowded_passed : (watched : BTreeMap ℕ Watched) (judging : Judging) (name : Naming) (out : List ℕ) (all : List Placed) → AreKept watched judging name out all all → AreCrowded watched → 2 ^ 40 ≤ length all
+crowded_passed watched judging name out all kept crowded =
+    let is = (kept_here watched judging name out all crowded.number crowded.one crowded.kept kept).1.1 in
+    many_fed crowded.one.judges (length all) is.judges.counted crowded.crowded
+
+full_count : (count n : ℕ) → count ≡ n → count + 1 ≡ 2 ^ 64 → 2 ^ 40 ≤ n
+full_count count n is full = omega (arith, is, full)
+
+-- so many have passed where no more can be counted
+pub many_passed : (judge : RecordingJudge) (named : List ℕ) (name : Naming) (out : List ℕ) (recorded : List Recorded) → StandsAfter judge named name out recorded
+    → (judge.attribution.count + 1 ≡ 2 ^ 64) ⊎ AreCrowded judge.watched → 2 ^ 40 ≤ length recorded
+many_passed judge named name out recorded stands (inl full) = full_count judge.attribution.count (length recorded) (stands.attribution.count ∙ length_placed named recorded) full
+many_passed judge named name out recorded stands (inr crowded) =
+    subst (λ n. 2 ^ 40 ≤ n) (length_placed named recorded) (crowded_passed judge.watched judge.judging name out (placed named recorded) stands.transfers crowded)

@@ -1,5 +1,5 @@
 -- What is kept of a transfer stands for each datagram that tells nothing of it.
-use Rattle.std.proofs.Common.{◌≡◌, Bool, true, false, List, [], ◌∷◌, Option, Some, None, Result, Ok, Err, sym, ap, ◌∙◌, subst, IfSome, OnOk}
+use Rattle.std.proofs.Common.{arith, ◌≡◌, ◌≤◌, ◌+◌, ℕ, length, Bool, true, false, List, [], ◌∷◌, Option, Some, None, Result, Ok, Err, sym, ap, ◌∙◌, subst, IfSome, OnOk}
 use Rattle.std.proofs.lemmas.Bool.{or_parts}
 use Rattle.std.specs.Bool.{then_some}
 use Rattle.std.proofs.lemmas.List.Elements.{All-head, All-tail}
@@ -13,7 +13,8 @@ use Rattle.audit_recording.proofs.BetweenLemmas.Holding.{passes_by as between_pa
 use Rattle.audit_flows.proofs.TransfersLemmas.OwnDatagrams.{about_none}
 use Rattle.audit_views.proofs.ViewsLemmas.Holding.{view_passes}
 use Rattle.audit_views.proofs.ViewsLemmas.Passing.{client_passes, doubts_pass_by}
-use Rattle.audit_recording.specs.Judges.{AreJudgesAfter, BetweenStands, ClientStands, IsUnheard, IsWatching, Judges, ServerStands, Watched, rollover_of}
+use Rattle.audit_recording.specs.Judges.{AreJudgesAfter, BetweenStands, ClientStands, HaveAtMost, IsUnheard, IsWatching, Judges, ServerStands, Watched, rollover_of}
+use Rattle.audit_recording.specs.Judges.Kept.{fed_at_client, fed_at_server, fed_between, fed_by}
 use Rattle.audit_recording.specs.declared.judges.judging.Judging.{Judging}
 
 -- ---- at each point
@@ -48,6 +49,28 @@ between_on rollover None x name p older off stands = stands
 between_on rollover (Some v) x name p older off stands =
     (stands.0, λ is. between_passes_by rollover v p older (about_none v.transfer.number p (ap (λ (y : Transfer). is_about y.number p) stands.0 ∙ off)) (stands.1 is))
 
+-- ---- how many each has
+
+pub fed_some_if : {A : Type 0} (counted : A → ℕ) {o : Option A} (b : Bool) (a : A) → o ≡ then_some b a → counted a ≡ 0 → fed_by counted o ≤ 0
+fed_some_if counted true a is none = subst (λ o. fed_by counted o ≤ 0) (sym is) (omega (arith, none))
+fed_some_if counted false a is none = subst (λ o. fed_by counted o ≤ 0) (sym is) (omega arith)
+
+-- no more than with one datagram more
+one_higher : (m : ℕ) (p : Placed) (older : List Placed) → m ≤ length older → m ≤ length (p ∷ older)
+one_higher m p older le = grind arith
+
+pub both_higher : (m k : ℕ) (p : Placed) (older : List Placed) → m ≤ k + 1 → k ≤ length older → m ≤ length (p ∷ older)
+both_higher m k p older up le = grind arith
+
+counted_on : (j : Judges) (p : Placed) (older : List Placed) → HaveAtMost j (length older) → HaveAtMost j (length (p ∷ older))
+counted_on j p older few = record {
+  client = one_higher (fed_at_client j.client) p older few.client;
+  server = one_higher (fed_at_server j.server) p older few.server;
+  between = one_higher (fed_between j.between) p older few.between;
+}
+
+-- ---- all of them
+
 pub judges_on : (rollover : Option Rollover) (j : Judges) (x : Transfer) (name : Naming) (p : Placed) (older : List Placed) → is_about x.number p ≡ false
     → AreJudgesAfter rollover j x name older → AreJudgesAfter rollover j x name (p ∷ older)
 judges_on rollover j x name p older off after = record {
@@ -55,6 +78,7 @@ judges_on rollover j x name p older off after = record {
   client = client_on rollover j.client x name p older off after.client;
   server = server_on rollover j.server x name p older off after.server;
   between = between_on rollover j.between x name p older off after.between;
+  counted = counted_on j p older after.counted;
 }
 
 -- ---- the whole

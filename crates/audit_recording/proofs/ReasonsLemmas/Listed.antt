@@ -6,8 +6,8 @@ use Rattle.std.proofs.lemmas.List.Folds.{list_any-append}
 use Rattle.audit_flows.specs.Lines.{Placed, follows_strays, follows_unanswered, goes_on_with_first, is_asked_again, is_disordered, is_late}
 use Rattle.audit_flows.specs.Transfers.Doubts.{is_answered_apart, is_beside, is_doubted, is_doubtful, is_led_astray, some_of, tells_strays}
 use Rattle.audit_recording.specs.Reasons.{Blamed, Doubted, Reason}
-use Rattle.audit_recording.specs.declared.blame.reason.Reason.TheVariants.{Disordered, LeftOut, FollowsUnanswered, AskedAgain, AnsweredApart, FollowsStrays, Late, Beside, LedAstray, UnknownId, FirstWord, OneWay, Twice, Lost, Copied, Damaged, Discarded}
-use Rattle.audit_recording.specs.Reasons.Listed.{IsBlamedAt, frame_reasons, is_astray, is_of_division, is_one_way, reasons_of, up_to, where_so, whole_reasons, with_frame}
+use Rattle.audit_recording.specs.declared.blame.reason.Reason.TheVariants.{Disordered, LeftOut, FollowsUnanswered, AskedAgain, AnsweredApart, FollowsStrays, Late, Beside, LedAstray, UnknownId, FirstWord, OneWay, Twice, Lost, Copied, Damaged, Discarded, Joined, TurnedAway}
+use Rattle.audit_recording.specs.Reasons.Listed.{IsBlamedAt, frame_reasons, is_astray, is_of_division, is_one_way, is_turned_away, reasons_of, up_to, where_so, whole_reasons, with_frame}
 
 -- ---- added one after the other
 
@@ -74,11 +74,12 @@ no_frame reason (Some frame) off = record { is = ap (λ b. b || false) (off fram
 
 frames_are_none : (d : Doubted) (b : Blamed) → Tells (frame_reasons d b) false
 frames_are_none d b =
-    none_more (none_more (none_more
+    none_more (none_more (none_more (none_more
     (no_frame (λ n. Lost n) (up_to b.frame d.missing.first) (λ n. refl))
     (no_frame (λ n. Copied n) (up_to b.frame d.copied_from) (λ n. refl)))
     (no_frame (λ n. Damaged n) (up_to b.frame d.damaged) (λ n. refl)))
-    (no_frame (λ n. Discarded n) (up_to b.frame d.discarded) (λ n. refl))
+    (no_frame (λ n. Discarded n) (up_to b.frame d.discarded) (λ n. refl)))
+    (no_frame (λ n. Joined n) (up_to b.frame d.joined) (λ n. refl))
 
 -- ---- in the order of the division
 
@@ -119,11 +120,12 @@ pub told_of_division : (placed : List Placed) (d : Doubted) (b : Blamed)
 told_of_division placed d b =
     let whole = is_doubted d.doubts.number placed in
     let astray = is_astray placed d b in
-    (none_more (none_more (none_more (any_more (any_more (any_more (any_more (any_more
+    (none_more (none_more (none_more (any_more (any_more (none_more (any_more (any_more (any_more
     (whole_is_doubted placed d)
     (is_told Late b.is_late refl))
     (is_told Beside b.is_beside refl))
     (is_told LedAstray astray refl))
+    (is_no_doubt TurnedAway (is_turned_away placed d b) refl))
     (is_told UnknownId b.tells_strays refl))
     (is_told FirstWord b.says_first_word refl))
     (is_no_doubt OneWay (is_one_way d b) refl))

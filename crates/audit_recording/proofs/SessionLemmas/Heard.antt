@@ -319,6 +319,8 @@ stays_telling t u o is judging x named carried was = subst (λ (v : Trail). IsTr
     copied_from = was.own.copied_from;
     damaged = was.own.damaged;
     spoilt = was.own.spoilt;
+    joined = was.own.joined;
+    goes_on = was.own.goes_on;
     closing = was.own.closing;
     blame = was.own.blame;
   };

@@ -44,6 +44,8 @@ own_discarding t frame judging x named carried was = record {
   copied_from = was.copied_from;
   damaged = was.damaged;
   spoilt = was.spoilt;
+  joined = was.joined;
+  goes_on = was.goes_on;
   closing = was.closing;
   blame = was.blame;
 }

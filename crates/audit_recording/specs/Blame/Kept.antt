@@ -9,7 +9,7 @@ use Rattle.tftp_packet.specs.{Rollover}
 use Rattle.law_model.specs.Rules.{first_of}
 use Rattle.audit_flows.specs.Lines.{Placed, same_endpoint}
 use Rattle.audit_flows.specs.{Transfer}
-use Rattle.audit_flows.specs.Transfers.{AreEndsAfter, is_about, opened_it}
+use Rattle.audit_flows.specs.Transfers.{AreEndsAfter, is_about, opened_it, some_of}
 use Rattle.audit_recording.specs.declared.blame.blame.Blame.{Blame}
 use Rattle.audit_recording.specs.declared.blame.blame.Blamed.{Blamed}
 use Rattle.audit_recording.specs.declared.blame.facts.Found.{Found}
@@ -26,7 +26,9 @@ use Rattle.audit_recording.specs.Endings.Kept.{IsClosingOf}
 use Rattle.audit_recording.specs.Judges.{points_of, rollover_of}
 use Rattle.audit_recording.specs.Blame.Frames.{Carried, Framed, framed, is_seen, numbered, seen_of, view_of, whole_of}
 use Rattle.audit_recording.specs.Blame.Named.{named_in}
+use Rattle.audit_recording.specs.Blame.Several.{is_joined}
 use Rattle.audit_recording.specs.Blame.Facts.{IsRefusedAt, blamed_of, has_gone_on, is_for_server}
+use Rattle.audit_recording.specs.Reasons.Listed.{goes_on_by_more}
 use Rattle.audit_recording.specs.Reasons.Twice.{IsTwiceAfter, Sent, sent}
 
 -- ---- what a judge tells
@@ -131,6 +133,7 @@ pub record IsPassing (passing : Passing) (c : Carried) : Type 0 where
   pub is_doubtful : passing.is_doubtful ≡ c.is_doubtful
   pub has_error : passing.has_error ≡ c.has_error
   pub has_wrong_checksum : passing.has_wrong_checksum ≡ is_wrong c.checksum
+  pub is_joined : passing.is_joined ≡ is_joined c.checksum c.datagram.payload
   pub source : passing.source ≡ c.datagram.source
   pub target : passing.target ≡ c.datagram.target
   pub payload : passing.payload.now ≡ c.datagram.payload
@@ -161,6 +164,10 @@ is_damaged n f = is_about n f.placed && f.carried.has_error
 abbrev pub is_spoilt : ℕ → Framed → Bool
 is_spoilt n f = is_about n f.placed && is_wrong f.carried.checksum
 
+-- about the transfer, and it may be several
+abbrev pub has_several : ℕ → Framed → Bool
+has_several n f = is_about n f.placed && is_joined f.carried.checksum f.carried.datagram.payload
+
 -- it came to the client
 abbrev pub comes_to : Transfer → Framed → Bool
 comes_to x f = same_endpoint f.placed.datagram.target x.client
@@ -182,6 +189,8 @@ pub record IsNoted (old new : Trail) (passing : Passing) : Type 0 where
   pub damaged : new.damaged ≡ old.damaged
   pub discarded : new.discarded ≡ old.discarded
   pub spoilt : new.spoilt ≡ old.spoilt
+  pub joined : new.joined ≡ old.joined
+  pub goes_on : new.goes_on ≡ old.goes_on
   pub closing : new.closing ≡ old.closing
   pub blame : new.blame ≡ old.blame
 
@@ -205,6 +214,8 @@ pub record IsTrailOf (t : Trail) (judging : Judging) (x : Transfer) (named : Lis
   pub copied_from : t.copied_from ≡ first_frame (is_copied x.number) (framed named carried)
   pub damaged : t.damaged ≡ first_frame (is_damaged x.number) (framed named carried)
   pub spoilt : t.spoilt ≡ first_frame (is_spoilt x.number) (framed named carried)
+  pub joined : t.joined ≡ first_frame (has_several x.number) (framed named carried)
+  pub goes_on : t.goes_on ≡ some_of x.number goes_on_by_more (whole_of named carried)
   pub closing : IsClosingOf t.closing x (view_of Client x.number named carried)
   pub blame : IsBlameOf t.blame judging x (whole_of named carried) (framed named carried)
 

@@ -1,5 +1,5 @@
 -- What the judge of a recording keeps, and for which recordings it stands. Lists have the newest first.
-use Rattle.std.specs.Prelude.{◌≡◌, ◌≤◌, ◌<◌, ◌^◌, ◌⊎◌, ◌==◌, ◌∷◌, ℕ, Bool, true, false, List, All, Option, Some, None, Err, is_some, unwrap_or, IfSome, IsSome, if◌then◌else◌}
+use Rattle.std.specs.Prelude.{◌≡◌, ◌≤◌, ◌<◌, ◌^◌, ◌⊎◌, ◌==◌, ◌∷◌, ℕ, Bool, true, false, List, All, Option, Some, None, Err, is_some, length, unwrap_or, IfSome, IsSome, if◌then◌else◌}
 use Rattle.std.specs.BTreeMap.{BTreeMap, get}
 use Rattle.std.specs.List.{list_any}
 use Rattle.std.specs.Ordering.{nat_cmp}
@@ -45,25 +45,6 @@ ServerStands rollover = StandsAs (λ (v : View). v.transfer) (λ v name placed. 
 abbrev pub BetweenStands : Option Rollover → Option Between → Transfer → Naming → List Placed → Type 0
 BetweenStands rollover = StandsAs (λ (v : Between). v.transfer) (λ v name placed. name ≡ host_name → IsBetweenAfterBy rollover v placed)
 
--- each of them
-pub record AreJudgesAfter (rollover : Option Rollover) (j : Judges) (x : Transfer) (name : Naming) (placed : List Placed) : Type 0 where
-  pub works : j.failed ≡ false
-  pub client : ClientStands rollover j.client x name placed
-  pub server : ServerStands rollover j.server x name placed
-  pub between : BetweenStands rollover j.between x name placed
-
--- each is this transfer's
-pub record AreOf (j : Judges) (x : Transfer) : Type 0 where
-  pub client : IfSome j.client (λ c. c.transfer ≡ x)
-  pub server : IfSome j.server (λ v. v.transfer ≡ x)
-  pub between : IfSome j.between (λ v. v.transfer ≡ x)
-
--- they stand at these points, and at no others
-pub record AreAt (j : Judges) (points : Points) : Type 0 where
-  pub client : is_some j.client ≡ points.client
-  pub server : is_some j.server ≡ points.server
-  pub between : is_some j.between ≡ points.between
-
 -- how many datagrams the judge at a point has accepted, or holds
 abbrev pub fed_by : {J : Type 0} → (J → ℕ) → Option J → ℕ
 fed_by counted None = 0
@@ -77,6 +58,32 @@ fed_at_server = fed_by fed_to
 
 abbrev pub fed_between : Option Between → ℕ
 fed_between = fed_by given_to
+
+-- none of them has more than this
+pub record HaveAtMost (j : Judges) (count : ℕ) : Type 0 where
+  pub client : fed_at_client j.client ≤ count
+  pub server : fed_at_server j.server ≤ count
+  pub between : fed_between j.between ≤ count
+
+-- each of them, and none has more datagrams than these
+pub record AreJudgesAfter (rollover : Option Rollover) (j : Judges) (x : Transfer) (name : Naming) (placed : List Placed) : Type 0 where
+  pub works : j.failed ≡ false
+  pub client : ClientStands rollover j.client x name placed
+  pub server : ServerStands rollover j.server x name placed
+  pub between : BetweenStands rollover j.between x name placed
+  pub counted : HaveAtMost j (length placed)
+
+-- each is this transfer's
+pub record AreOf (j : Judges) (x : Transfer) : Type 0 where
+  pub client : IfSome j.client (λ c. c.transfer ≡ x)
+  pub server : IfSome j.server (λ v. v.transfer ≡ x)
+  pub between : IfSome j.between (λ v. v.transfer ≡ x)
+
+-- they stand at these points, and at no others
+pub record AreAt (j : Judges) (points : Points) : Type 0 where
+  pub client : is_some j.client ≡ points.client
+  pub server : is_some j.server ≡ points.server
+  pub between : is_some j.between ≡ points.between
 
 -- one of them has as many as can be counted
 abbrev pub IsCrowded : Judges → Type 0

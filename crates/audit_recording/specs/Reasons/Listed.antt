@@ -1,12 +1,13 @@
 -- Why a refusal is no accusation: which reasons are told, in their order. Lists of datagrams have the newest first.
 use Rattle.std.specs.Prelude.{◌≡◌, ◌&&◌, ◌==◌, not, nat_le, ℕ, Bool, true, false, List, [], ◌∷◌, ◌++◌, Option, Some, None, if◌then◌else◌}
-use Rattle.audit_flows.specs.Lines.{Placed, comes_in, follows_strays, follows_unanswered, goes_on_with_first, is_asked_again, is_disordered, is_late, says_first_word}
+use Rattle.audit_flows.specs.Lines.{Placed, Recorded, begins_error, comes_in, follows_request, follows_strays, follows_unanswered, goes_on_with_first, is_asked_again, is_disordered, is_late, says_first_word}
+use Rattle.audit_flows.specs.Transfers.{placed}
 use Rattle.audit_flows.specs.Transfers.Doubts.{is_answered_apart, is_beside, some_of, tells_strays}
 use Rattle.audit_flows.specs.{V4}
 use Rattle.audit_recording.specs.declared.blame.blame.Blamed.{Blamed}
 use Rattle.audit_recording.specs.declared.blame.doubted.Doubted.{Doubted}
 use Rattle.audit_recording.specs.declared.blame.reason.Reason.{Reason}
-use Rattle.audit_recording.specs.declared.blame.reason.Reason.TheVariants.{Disordered, LeftOut, FollowsUnanswered, AskedAgain, AnsweredApart, FollowsStrays, Late, Beside, LedAstray, UnknownId, FirstWord, OneWay, Twice, Lost, Copied, Damaged, Discarded}
+use Rattle.audit_recording.specs.declared.blame.reason.Reason.TheVariants.{Disordered, LeftOut, FollowsUnanswered, AskedAgain, AnsweredApart, FollowsStrays, Late, Beside, LedAstray, TurnedAway, UnknownId, FirstWord, OneWay, Twice, Lost, Copied, Damaged, Discarded, Joined}
 
 -- the reason, where it holds
 abbrev pub where_so : Reason → Bool → List Reason
@@ -25,6 +26,17 @@ up_to last (Some frame) = if nat_le frame last then Some frame else None
 -- Something had come to the client, which never went on with who sent it something first.
 abbrev pub is_astray : List Placed → Doubted → Blamed → Bool
 is_astray placed d b = b.is_answered && not (some_of d.doubts.number goes_on_with_first placed)
+
+-- by it the client goes on with who sent it something first, and by more than an ERROR
+abbrev pub goes_on_by_more : Placed → List Placed → Bool
+goes_on_by_more p older = goes_on_with_first p older && not (begins_error p.datagram.payload)
+
+-- The client had asked before, and an ERROR is all that it sent to who sent it something first: that was the late answer to what it had asked
+-- before, it may be. Clients refuse such a one by other ERRORs than 5, too.
+abbrev pub is_turned_away : List Placed → Doubted → Blamed → Bool
+is_turned_away placed d b =
+    b.is_answered && some_of d.doubts.number goes_on_with_first placed && some_of d.doubts.number follows_request placed
+    && not d.goes_on
 
 -- Nothing came to the client, and it is not its request that is refused.
 abbrev pub is_one_way : Doubted → Blamed → Bool
@@ -47,6 +59,7 @@ frame_reasons d b =
     ++ with_frame Copied (up_to b.frame d.copied_from)
     ++ with_frame Damaged (up_to b.frame d.damaged)
     ++ with_frame Discarded (up_to b.frame d.discarded)
+    ++ with_frame Joined (up_to b.frame d.joined)
 
 -- Why a refusal at that datagram is no accusation, once these datagrams have passed: there is no reason exactly where it is one.
 abbrev pub reasons_of : List Placed → Doubted → Blamed → List Reason
@@ -55,6 +68,7 @@ reasons_of placed d b =
     ++ where_so Late b.is_late
     ++ where_so Beside b.is_beside
     ++ where_so LedAstray (is_astray placed d b)
+    ++ where_so TurnedAway (is_turned_away placed d b)
     ++ where_so UnknownId b.tells_strays
     ++ where_so FirstWord b.says_first_word
     ++ where_so OneWay (is_one_way d b)
@@ -115,6 +129,8 @@ worked_doubted is_twice is_one_way first = record {
   copied_from = None;
   damaged = None;
   discarded = None;
+  joined = None;
+  goes_on = false;
   left_out = None;
   missing = record { first = first; within = Some 9 };
 }
@@ -134,3 +150,9 @@ worked_blamed frame is_late = record {
   comes_of_earlier = false;
   source = record { port = 2000; address = V4 (192 ∷ 0 ∷ 2 ∷ 1 ∷ []) };
 }
+
+-- whether the client of transfer 0 is turned away by these datagrams, at one that comes after an answer
+abbrev pub is_turned_away_in : List Recorded → Bool
+is_turned_away_in recorded =
+    is_turned_away (placed [] recorded) (record (worked_doubted false false None) { goes_on = some_of 0 goes_on_by_more (placed [] recorded) })
+    (record (worked_blamed 3 false) { is_answered = true })

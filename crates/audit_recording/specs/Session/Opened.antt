@@ -1,5 +1,5 @@
 -- A recording that is read frame by frame. Lists have the newest first.
-use Rattle.std.specs.Prelude.{◌≡◌, ◌⊎◌, [], ℕ, Bool, false, List, Option, Some}
+use Rattle.std.specs.Prelude.{◌≡◌, ◌≤◌, ◌^◌, ◌⊎◌, [], ℕ, Bool, false, List, Option, Some, length}
 use Rattle.std.specs.Io.KnownBytes.{Consumes, IsAtEnd, prepend_known}
 use Rattle.net_pcap.specs.{BeginsAsClassic, FailsToBegin, FaultKind, PcapFault, lost_of}
 use Rattle.net_streams.specs.{Standing}
@@ -51,14 +51,32 @@ pub record IsSessionClosed (session : Session) (recording : RecordingState) (nam
 abbrev pub BeginsNot : Option (List ℕ) → FaultKind → Type 0
 BeginsNot file kind = (left : Option (List ℕ)) × (fault : PcapFault) × FailsToBegin file left fault × (fault.kind ≡ kind)
 
--- That a file is no recording, or none that is read here, is said only where it fails to begin so. That memory was refused, or that there are
--- too many datagrams, nothing shows.
+-- The file begins with these frames: it had bytes, and these are their frames.
+abbrev pub BeginsWith : Option (List ℕ) → List Step → Type 0
+BeginsWith file history = (recording : RecordingState) × (bytes : List ℕ) × (left : Option (List ℕ)) × Consumes file left bytes × StandsFor recording bytes history
+
+-- so many frames of it were read, or more
+abbrev pub HasFrames : Option (List ℕ) → ℕ → Type 0
+HasFrames file count = (history : List Step) × BeginsWith file history × (count ≤ length history)
+
+-- as many frames as there must be before there can be too many datagrams
+abbrev pub HasMany : Option (List ℕ) → Type 0
+HasMany file = HasFrames file (2 ^ 40)
+
+-- That a file is no recording, or none that is read here, is said only where it fails to begin so; that there are too many datagrams, only
+-- where so many frames were read. That memory was refused nothing shows.
 abbrev pub IsReadFaultOf : Option (List ℕ) → ReadFault → Type 0
 IsReadFaultOf file (ReadFault.NoRecording words) = BeginsNot file FaultKind.NotARecording
 IsReadFaultOf file (ReadFault.Format kind) = BeginsNot file kind
 IsReadFaultOf file ReadFault.Memory = Unit {0}
-IsReadFaultOf file ReadFault.TooMany = Unit {0}
+IsReadFaultOf file ReadFault.TooMany = HasMany file
 IsReadFaultOf file (ReadFault.Alloc error) = Unit {0}
+
+-- memory was refused
+abbrev pub IsMemoryFault : ReadFault → Type 0
+IsMemoryFault ReadFault.Memory = Unit {0}
+IsMemoryFault (ReadFault.Alloc error) = Unit {0}
+IsMemoryFault _ = ⊥
 
 -- ---- one that is read whole
 

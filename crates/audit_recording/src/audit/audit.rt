@@ -123,6 +123,9 @@ impl<D: Delivered + Drop> RecordingAudit<D> {
         ensures goes { (next : NextFrame) → result ≡ Ok next → next ≢ NextFrame.End → standing_of recording.new ≡ Standing.Open }
         ensures stops { (fault : PcapFault) → result ≡ Err (AuditFault.Recording fault) → standing_of recording.new ≡ Standing.Failed fault }
         ensures fails { (fault : AttributionFault) → result ≡ Err (AuditFault.Judges fault) → self.new.judge.failed ≡ true }
+        ensures many { (named : List ℕ) (out : List ℕ) (history : List Step) (passed : List Recorded)
+            → AuditsAfter self.old named out history passed
+            → result ≡ Err (AuditFault.Judges AttributionFault.TooMany) → 2 ^ 40 ≤ length passed }
         ensures judging { self.new.judge.judging ≡ self.old.judge.judging }
     {
         match recording.next_into(alloc, reader, event) {
@@ -140,6 +143,7 @@ impl<D: Delivered + Drop> RecordingAudit<D> {
             → IsNoted (λ datagrams. AuditsAfter self.new named out (step ∷ history) datagrams) named passed event.now result }
         ensures no_end { result ≢ Ok NextFrame.End }
         ensures no_stop { (fault : PcapFault) → result ≢ Err (AuditFault.Recording fault) }
+        ensures full { result ≡ Err (AuditFault.Judges AttributionFault.TooMany) → (self.old.judge.attribution.count + 1 ≡ 2 ^ 64) ⊎ AreCrowded self.old.judge.watched }
         ensures fails { OnErr result (self.new.judge.failed ≡ true) }
         ensures judging { self.new.judge.judging ≡ self.old.judge.judging }
     {

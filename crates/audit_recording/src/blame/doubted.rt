@@ -3,8 +3,8 @@
 ghost use Rattle.std.specs.Prelude.{◌≡◌, ◌≢◌, ◌++◌, List, [], IsErr, None, OnOk, option_to_list, true};
 ghost use Rattle.audit_flows.specs.Lines.{Placed};
 ghost use Rattle.audit_flows.specs.Transfers.{IsDoubtedAfter};
-ghost use Rattle.audit_recording.specs.Reasons.Listed.{frame_reasons, is_astray, is_one_way, missing_reasons, reasons_of, up_to, where_so, whole_reasons, with_frame};
-ghost use Rattle.audit_recording.specs.declared.blame.reason.Reason.TheVariants.{Copied, Damaged, Discarded, LeftOut, Lost};
+ghost use Rattle.audit_recording.specs.Reasons.Listed.{frame_reasons, is_astray, is_one_way, is_turned_away, missing_reasons, reasons_of, up_to, where_so, whole_reasons, with_frame};
+ghost use Rattle.audit_recording.specs.declared.blame.reason.Reason.TheVariants.{Copied, Damaged, Discarded, Joined, LeftOut, Lost};
 
 use crate::blame::blame::Blamed;
 use crate::blame::missing::Missing;
@@ -29,6 +29,10 @@ pub struct Doubted {
     pub damaged: Option<u64>,
     /// The frame of a datagram with a wrong checksum, or of one that was left out for it.
     pub discarded: Option<u64>,
+    /// The frame of a datagram that may be several which were recorded as one.
+    pub joined: Option<u64>,
+    /// Its client went on with who sent it something first, and by more than an ERROR.
+    pub goes_on: bool,
     /// The frame of what was left out, and may be of it by its time.
     pub left_out: Option<u64>,
     /// Frames that may have been its client's, and are not there whole.
@@ -47,6 +51,7 @@ impl Doubted {
         put_if(reasons, blamed.is_late, Reason::Late)?;
         put_if(reasons, blamed.is_beside, Reason::Beside)?;
         put_if(reasons, self.is_led_astray(blamed), Reason::LedAstray)?;
+        put_if(reasons, self.is_turned_away(blamed), Reason::TurnedAway)?;
         put_if(reasons, blamed.tells_strays, Reason::UnknownId)?;
         put_if(reasons, blamed.says_first_word, Reason::FirstWord)?;
         put_if(reasons, self.is_one_way_for(blamed), Reason::OneWay)?;
@@ -81,6 +86,16 @@ impl Doubted {
         blamed.is_answered && !self.doubts.goes_on_with_first()
     }
 
+    /// Whether something had come to its client, which had asked before, and sent an ERROR alone to who sent it something first.
+    fn is_turned_away(&self, blamed: &Blamed) -> bool
+        ensures { (placed : List Placed) → IsDoubtedAfter self.now.doubts placed → result ≡ is_turned_away placed self.now blamed.now }
+    {
+        let doubts = &self.doubts;
+        let goes_on_with_first = doubts.goes_on_with_first();
+        let has_asked_more = doubts.has_asked_more();
+        blamed.is_answered && goes_on_with_first && has_asked_more && !self.goes_on
+    }
+
     /// Whether nothing came to its client, and it is not the request that is refused.
     fn is_one_way_for(&self, blamed: &Blamed) -> bool
         ensures { result ≡ is_one_way self.now blamed.now }
@@ -96,7 +111,8 @@ impl Doubted {
         put_some(reasons, lost_in(up_to(self.missing.first, blamed.frame)))?;
         put_some(reasons, copied_from(up_to(self.copied_from, blamed.frame)))?;
         put_some(reasons, damaged_in(up_to(self.damaged, blamed.frame)))?;
-        put_some(reasons, discarded_in(up_to(self.discarded, blamed.frame)))
+        put_some(reasons, discarded_in(up_to(self.discarded, blamed.frame)))?;
+        put_some(reasons, joined_in(up_to(self.joined, blamed.frame)))
     }
 
     /// Adds why a transfer that stops early may have gone on.
@@ -187,6 +203,16 @@ fn discarded_in(frame: Option<u64>) -> Option<Reason>
 {
     match frame {
         Some(frame) => Some(Reason::Discarded(frame)),
+        None => None,
+    }
+}
+
+/// The reason that a frame may be several datagrams, if one may.
+fn joined_in(frame: Option<u64>) -> Option<Reason>
+    ensures { option_to_list result ≡ with_frame Joined frame }
+{
+    match frame {
+        Some(frame) => Some(Reason::Joined(frame)),
         None => None,
     }
 }

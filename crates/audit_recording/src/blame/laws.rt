@@ -1,13 +1,16 @@
 //! Laws of the definitions in `specs/`. Each is the contract of a function that does nothing.
 
-ghost use Rattle.std.specs.Prelude.{◌≡◌, ◌∷◌, ℕ, List, [], None, Some, false, true};
+ghost use Rattle.std.specs.Prelude.{◌≡◌, ◌∷◌, ℕ, List, [], None, Some, drop, false, take, true};
 ghost use Rattle.std.specs.List.{list_any};
+ghost use Rattle.net_udp.specs.declared.frames.checksum.Checksum.{Checksum};
 ghost use Rattle.audit_flows.specs.Lines.{Placed};
 ghost use Rattle.audit_flows.specs.Transfers.Doubts.{is_doubtful};
+ghost use Rattle.audit_flows.specs.Transfers.Worked.{asked_twice, client, error_of, passes, server, told_another};
+ghost use Rattle.audit_recording.specs.Blame.Several.{is_joined, may_be_several, worked_acks, worked_again, worked_next, worked_one};
 ghost use Rattle.audit_recording.specs.Reasons.{Blamed, Doubted};
 ghost use Rattle.audit_recording.specs.Reasons.Twice.{are_twice, worked_sent};
 ghost use Rattle.audit_recording.specs.declared.blame.reason.Reason.TheVariants.{Late, Lost, OneWay, Twice};
-ghost use Rattle.audit_recording.specs.Reasons.Listed.{IsBlamedAt, is_of_division, missing_reasons, reasons_of, worked_blamed, worked_doubted};
+ghost use Rattle.audit_recording.specs.Reasons.Listed.{IsBlamedAt, is_of_division, is_turned_away_in, missing_reasons, reasons_of, worked_blamed, worked_doubted};
 
 /// A reason of the division is told of a refused datagram exactly where the division makes the refusal doubtful. So an accusation,
 /// of which no reason is told, is none that the division doubts.
@@ -27,6 +30,27 @@ pub fn worked_reasons()
     ensures answer { reasons_of [] (worked_doubted false true None) (worked_blamed 5 false) ≡ OneWay ∷ [] }
     ensures request { reasons_of [] (worked_doubted false true None) (worked_blamed 1 false) ≡ [] }
     ensures missing { missing_reasons (worked_doubted false false None) ≡ Lost 9 ∷ [] }
+{}
+
+/// Block 1 with block 2 behind it may be two datagrams that were recorded as one, and so may block 1 twice and two ACKs, the second of the next
+/// round. A block in which another number stands is one, and so are a block alone, and fewer bytes than a head has.
+pub fn worked_several()
+    ensures next { may_be_several worked_next ≡ true }
+    ensures again { may_be_several worked_again ≡ true }
+    ensures acks { may_be_several worked_acks ≡ true }
+    ensures one { may_be_several worked_one ≡ false }
+    ensures alone { may_be_several (take 6 worked_next) ≡ false }
+    ensures short { may_be_several (0 ∷ 3 ∷ 0 ∷ []) ≡ false }
+    ensures right { is_joined Checksum.Right worked_next ≡ false }
+{}
+
+/// Of a client that asked twice, and answers the first block by an ERROR alone, a refusal is doubtful. It is not so where it acknowledges the
+/// block, before an ERROR too, nor where it had asked once.
+pub fn worked_turned_away()
+    ensures error { is_turned_away_in (passes 4 client server (error_of 8) ∷ drop 1 asked_twice) ≡ true }
+    ensures ack { is_turned_away_in asked_twice ≡ false }
+    ensures both { is_turned_away_in (passes 5 client server (error_of 8) ∷ asked_twice) ≡ false }
+    ensures once { is_turned_away_in (passes 4 client server (error_of 8) ∷ drop 2 told_another) ≡ false }
 {}
 
 /// Each of four datagrams that stand in pairs stands beside its equal, and so does each of five in a pair and a row of three. One that

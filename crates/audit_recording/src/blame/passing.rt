@@ -20,6 +20,8 @@ pub struct Passing<'a> {
     /// Whether its checksum or that of its IP header is wrong, so that its host may have discarded it (RFC 1122, sections 3.2.1.2
     /// and 4.1.3.4). One that was left to its sender's network card is not.
     pub has_wrong_checksum: bool,
+    /// Whether it may be several datagrams that were recorded as one, before their checksums were made.
+    pub is_joined: bool,
     /// Where it came from.
     pub source: Endpoint,
     /// Where it went.

@@ -21,6 +21,8 @@ pub enum Reason {
     FollowsUnanswered,
     /// The client did not go on with who sent it something first.
     LedAstray,
+    /// The client had asked before, and sent an ERROR alone to who sent it something first.
+    TurnedAway,
     /// The datagram is an ERROR 5, "Unknown transfer ID" (RFC 1350, section 5).
     UnknownId,
     /// At the server: its client sent the datagram to where it had heard nothing from.
@@ -47,6 +49,8 @@ pub enum Reason {
     Damaged(u64),
     /// The frame with this number, from 1, has a wrong checksum of UDP or of its IP header (RFC 1122, sections 3.2.1.2 and 4.1.3.4).
     Discarded(u64),
+    /// The frame with this number, from 1, may be several datagrams that were recorded as one.
+    Joined(u64),
     /// The recorder says that it lost so many packets, at least 1.
     Dropped(u64),
 }

@@ -9,6 +9,7 @@ ghost use Rattle.audit_recording.specs.Between.{IsBetweenFoundBy, between_captur
 ghost use Rattle.audit_recording.specs.Blame.Facts.{blamed_as, blamed_of, has_gone_on, is_for_server, refused_between, refused_in};
 ghost use Rattle.audit_recording.specs.Blame.Frames.{Carried, Framed, framed, framed_after, view_of, whole_of};
 ghost use Rattle.audit_recording.specs.Blame.Kept.{IsNoted, IsPassing, IsTrailBetween, IsTrailOf, is_about_it, sent_of};
+ghost use Rattle.audit_recording.specs.Reasons.Listed.{goes_on_by_more};
 ghost use Rattle.audit_recording.specs.Reasons.Twice.{IsTwiceAfter, Sent, are_twice, sent};
 ghost use Rattle.audit_recording.specs.Endings.Undelivered.{undelivered_of};
 ghost use Rattle.audit_recording.specs.Endings.Pace.{IsPaceIn};
@@ -82,6 +83,10 @@ pub struct Trail {
     damaged: Option<u64>,
     /// The frame of a datagram with a wrong checksum.
     spoilt: Option<u64>,
+    /// The frame of a datagram that may be several which were recorded as one.
+    joined: Option<u64>,
+    /// Whether its client went on with who sent it something first, and by more than an ERROR.
+    goes_on: bool,
     /// The frame of a datagram that was left out as discarded, and may be of it.
     discarded: Option<u64>,
     /// The last datagram between its ends that did not arrive, once it is handed out.
@@ -110,6 +115,8 @@ impl Drop for Trail {
             copied_from: _,
             damaged: _,
             spoilt: _,
+            joined: _,
+            goes_on: _,
             discarded: _,
             undelivered: _,
             closing: _,
@@ -148,6 +155,8 @@ impl Trail {
             copied_from: None,
             damaged: None,
             spoilt: None,
+            joined: None,
+            goes_on: false,
             discarded: None,
             undelivered: None,
             closing: Closing::new(alloc),
@@ -190,6 +199,8 @@ impl Trail {
         self.copied_from = first(self.copied_from, passing.is_doubtful, passing.frame);
         self.damaged = first(self.damaged, passing.has_error, passing.frame);
         self.spoilt = first(self.spoilt, passing.has_wrong_checksum, passing.frame);
+        self.joined = first(self.joined, passing.is_joined, passing.frame);
+        self.goes_on = goes_on_by_more(self.goes_on, &found.doubts, passing.payload);
         self.options = self.options.with(passing.payload);
         self.ends.note(
             &found.place,
@@ -359,6 +370,8 @@ impl Trail {
         ensures is_twice { (judging : JudgingKind) (x : Transfer) (named : List ℕ) (carried : List Carried) → IsTrailOf self.now judging x named carried
             → result.is_twice ≡ are_twice (map sent_of (view_of PointKind.Client x.number named carried)) }
         ensures discarded { result.discarded ≡ lesser self.now.discarded self.now.spoilt }
+        ensures joined { result.joined ≡ self.now.joined }
+        ensures goes_on { result.goes_on ≡ self.now.goes_on }
         ensures begins { result.begins ≡ self.now.first }
         ensures is_one_way { result.is_one_way ≡ not self.now.is_answered }
         ensures copied_from { result.copied_from ≡ self.now.copied_from }
@@ -373,6 +386,8 @@ impl Trail {
             copied_from: self.copied_from,
             damaged: self.damaged,
             discarded: least(self.discarded, self.spoilt),
+            joined: self.joined,
+            goes_on: self.goes_on,
             left_out: self.left_out,
             missing,
         }
@@ -463,6 +478,14 @@ fn is_for_server(payload: &[u8]) -> bool
     let is_request = kind == 1 || kind == 2;
     let is_unknown_id = payload.starts_with(ERROR_5.as_slice());
     !is_request && !is_unknown_id
+}
+
+/// Whether the client goes on by a datagram with who sent it something first, and by more than an ERROR, or had done so.
+fn goes_on_by_more(known: bool, doubts: &Doubts, payload: &[u8]) -> bool
+    ensures { (p : Placed) (older : List Placed) → doubts.now ≡ doubts_of p older → p.datagram.payload ≡ payload.now
+        → result ≡ (goes_on_by_more p older || known) }
+{
+    (doubts.goes_on_with_first && opcode(payload) != 5) || known
 }
 
 /// Whether it passed with another than the client.

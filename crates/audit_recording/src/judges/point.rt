@@ -1,6 +1,6 @@
 //! A transfer's judge at one point, where it is judged there.
 
-ghost use Rattle.std.specs.Prelude.{◌≡◌, ◌^◌, ◌<◌, ◌≤◌, ◌∷◌, ℕ, List, Option, length, is_some, IfSome, OnOk, Ok, false};
+ghost use Rattle.std.specs.Prelude.{◌≡◌, ◌+◌, ◌^◌, ◌<◌, ◌≤◌, ◌∷◌, ℕ, List, Option, length, is_some, IfSome, OnOk, Ok, false};
 ghost use Rattle.audit_recording.specs.Between.{IsBetweenAfterBy, given_to};
 ghost use Rattle.audit_flows.specs.Lines.{Placed};
 ghost use Rattle.audit_flows.specs.{Transfer};
@@ -34,7 +34,8 @@ pub(crate) trait PointJudge {
             → IsFed name p (held_of fed.now) → OnOk result (stands rollover self.new name (p ∷ older)) }
         ensures others { (p : Placed) → fed.now.place.now ≡ p.place → is_about (judged self.old).number p ≡ false
             → (result ≡ Ok tt) × (self.new ≡ self.old) }
-        ensures judged { judged self.new ≡ judged self.old };
+        ensures judged { judged self.new ≡ judged self.old }
+        ensures counts { counted self.new ≤ counted self.old + 1 };
 
     /// How many datagrams it has accepted, or holds.
     fn counted(&self) -> u64
@@ -102,6 +103,7 @@ pub(crate) fn feed<J: PointJudge>(
     ensures others { (p : Placed) → fed.now.place.now ≡ p.place → IfSome judge.old (λ j. is_about (J.judged j).number p ≡ false)
         → (result ≡ Ok tt) × (judge.new ≡ judge.old) }
     ensures there { is_some judge.new ≡ is_some judge.old }
+    ensures counts { fed_by J.counted judge.new ≤ fed_by J.counted judge.old + 1 }
 {
     match judge {
         Some(judge) => judge.take(alloc, fed),

@@ -1,6 +1,6 @@
 //! Recordings are read.
 
-ghost use Rattle.std.specs.Prelude.{◌≡◌, [], ℕ, List, IfErr, IfOk, OnOk, Ok, Option, false, true};
+ghost use Rattle.std.specs.Prelude.{◌≡◌, ◌≢◌, [], ℕ, List, Err, IfErr, IfOk, OnOk, Ok, Option, false, true};
 ghost use Rattle.std.specs.Io.KnownBytes.{IsAtEnd};
 ghost use Rattle.net_pcap.specs.{FailsToBegin, may_lose};
 ghost use Rattle.net_streams.specs.{Standing};
@@ -8,7 +8,8 @@ ghost use Rattle.net_udp.specs.Recording.{Step, standing_of};
 ghost use Rattle.audit_recording.specs.Blame.Frames.{Carried};
 ghost use Rattle.audit_recording.specs.Session.Kept.{IsSessionAfter, ReadsOn};
 ghost use Rattle.audit_recording.specs.Session.Noted.{Noticed, nothing_noticed};
-ghost use Rattle.audit_recording.specs.Session.Opened.{HasEnded, HasRead, IsReadFaultOf, IsReadOn, IsReadWhole, IsSessionClosed, left_of, may_lose_in};
+ghost use Rattle.audit_recording.specs.Session.Opened.{HasEnded, HasMany, HasRead, IsMemoryFault, IsReadFaultOf, IsReadOn, IsReadWhole, IsSessionClosed, left_of, may_lose_in};
+ghost use Rattle.audit_recording.specs.declared.session.fault.ReadFault.{ReadFault};
 
 use crate::session::fault::ReadFault;
 use crate::session::headed::{Headed, hint};
@@ -64,7 +65,10 @@ impl<R: Read + Drop> Opened<R> {
         ensures wanted { session.new.kept.wanted ≡ session.old.kept.wanted }
         ensures stays { may_lose_in self.new ≡ may_lose_in self.old }
         ensures may_lose { session.new.notes.may_lose ≡ may_lose_in self.new }
-        ensures why { (file : Option (List ℕ)) → IfErr result (IsReadFaultOf file) }
+        ensures why { result ≢ Err ReadFault.TooMany → IfErr result IsMemoryFault }
+        ensures many { (named out : List ℕ) (history : List Step) (carried : List Carried) (s : Noticed)
+            → (file : Option (List ℕ)) → HasRead R.remaining file self.old history → IsSessionAfter session.old named out history carried s
+            → result ≡ Err ReadFault.TooMany → HasMany file }
     {
         let goes_on = session.next(
             alloc,
@@ -110,7 +114,8 @@ pub fn read_whole<R: Read + Drop>(
     session: &mut Session,
 ) -> Result<(), ReadFault>
     ensures read { (named : List ℕ) → IsSessionAfter session.old named [] [] [] nothing_noticed → OnOk result (IsReadWhole (R.Read.remaining reader) session.new named) }
-    ensures why { IfErr result (IsReadFaultOf (R.Read.remaining reader)) }
+    ensures why { result ≢ Err ReadFault.TooMany → IfErr result (IsReadFaultOf (R.Read.remaining reader)) }
+    ensures many { (named : List ℕ) → IsSessionAfter session.old named [] [] [] nothing_noticed → result ≡ Err ReadFault.TooMany → HasMany (R.Read.remaining reader) }
     ensures wanted { session.new.kept.wanted ≡ session.old.kept.wanted }
 {
     let mut opened = Opened::begin(alloc, reader)?;
@@ -129,7 +134,9 @@ fn read_frames<R: Read + Drop>(
 ) -> Result<(), ReadFault>
     ensures read { (file : Option (List ℕ)) (named : List ℕ) → IsReadOn (HasRead R.Read.remaining file opened.old) session.old named
         → OnOk result (IsReadOn (HasRead R.Read.remaining file opened.new) session.new named) }
-    ensures why { (file : Option (List ℕ)) → IfErr result (IsReadFaultOf file) }
+    ensures why { result ≢ Err ReadFault.TooMany → IfErr result IsMemoryFault }
+    ensures many { (file : Option (List ℕ)) (named : List ℕ) → IsReadOn (HasRead R.Read.remaining file opened.old) session.old named
+        → result ≡ Err ReadFault.TooMany → HasMany file }
     ensures ends { OnOk result (HasEnded opened.new.recording session.new.notes) }
     ensures at_end { standing_of opened.old.recording ≡ Standing.Open
         → OnOk result (standing_of opened.new.recording ≡ Standing.Over → IsAtEnd (left_of R.Read.remaining opened.new)) }

@@ -1,6 +1,6 @@
 //! A recording, as far as it was read.
 
-ghost use Rattle.std.specs.Prelude.{◌≡◌, ◌≢◌, ◌==◌, ◌≤◌, ◌<◌, ◌-◌, ◌⊎◌, ◌∷◌, ◌++◌, [], ℕ, List, IfErr, IfOk, IfSome, IsErr, if◌then◌else◌, IsSome, MatchBool, OnErr, OnOk, Option, None, Some, Ok, Err, option_map, length, slice_get, true, false};
+ghost use Rattle.std.specs.Prelude.{◌≡◌, ◌≢◌, ◌==◌, ◌≤◌, ◌<◌, ◌-◌, ◌^◌, ◌⊎◌, ◌∷◌, ◌++◌, [], ℕ, List, IfErr, IfOk, IfSome, IsErr, if◌then◌else◌, IsSome, MatchBool, OnErr, OnOk, Option, None, Some, Ok, Err, option_map, length, slice_get, true, false};
 ghost use Rattle.std.specs.BTreeMap.{get, keys};
 ghost use Rattle.std.specs.Io.KnownBytes.{Consumes, IsAtEnd, prepend_known};
 ghost use Rattle.std.specs.Ordering.{nat_cmp};
@@ -11,7 +11,7 @@ ghost use Rattle.net_udp.specs.Recording.{IsFateOf, StandsFor, Step, standing_of
 ghost use Rattle.net_udp.specs.{Fate as Became};
 ghost use Rattle.net_udp.specs.declared.recording.fate.Datagram.{Datagram as Given};
 ghost use Rattle.audit_flows.specs.Lines.{same_address};
-ghost use Rattle.audit_flows.specs.{Attributed as Found, Opens};
+ghost use Rattle.audit_flows.specs.{Attributed as Found, AttributionFault, Opens};
 ghost use Rattle.audit_recording.specs.Audit.{AuditsAfter};
 ghost use Rattle.audit_recording.specs.Audit.Audited.{IsAttributed, IsOfEvent};
 ghost use Rattle.audit_recording.specs.Blame.Frames.{Carried, datagrams_of, framed_after, whole_of};
@@ -26,13 +26,15 @@ ghost use Rattle.audit_recording.specs.Session.Recording.{AddsOne, IsCarriedBy, 
 ghost use Rattle.audit_recording.specs.Session.Beside.{AreMarksKept, IsMarkedBy, Mark, gone_of};
 ghost use Rattle.audit_recording.specs.Session.Heard.{IsUndeliveredOf};
 ghost use Rattle.audit_recording.specs.Session.Kept.{AddsFrame, AreJudgesLeft, GivesNone, IsReadAfter, IsSessionAfter, IsSessionOf, ReadsOn};
-ghost use Rattle.audit_recording.specs.Session.Opened.{IsReadFaultOf};
+ghost use Rattle.audit_recording.specs.Session.Opened.{IsMemoryFault};
 ghost use Rattle.audit_recording.specs.Session.Over.{IsOldestOver};
 ghost use Rattle.audit_recording.specs.Session.Strays.{stray_of};
 ghost use Rattle.audit_recording.specs.Session.Texts.{AreTextsKept, IsNoneNumbered, opened_numbers, ordinal};
 ghost use Rattle.audit_recording.specs.Session.Trails.{AreTrailsBegun, AreTrailsKept, IsTrailAfter};
+ghost use Rattle.audit_recording.specs.declared.session.fault.ReadFault.{ReadFault};
 
 use crate::audit::{AuditFault, NextFrame, RecordingAudit};
+use crate::blame::several::is_joined;
 use crate::blame::{Missing, Passing, Trail, about};
 use crate::judges::{Judging, Watched};
 use crate::session::fault::{ReadFault, TextFault};
@@ -141,7 +143,9 @@ impl Session {
         ensures fault { result ≡ Ok true → self.new.notes.fault ≡ self.old.notes.fault }
         ensures judging { self.new.audit.judge.judging ≡ self.old.audit.judge.judging }
         ensures wanted { self.new.kept.wanted ≡ self.old.kept.wanted }
-        ensures why { (file : Option (List ℕ)) → IfErr result (IsReadFaultOf file) }
+        ensures why { result ≢ Err ReadFault.TooMany → IfErr result IsMemoryFault }
+        ensures many { (named out : List ℕ) (history : List Step) (carried : List Carried) (s : Noticed) → IsSessionAfter self.old named out history carried s
+            → result ≡ Err ReadFault.TooMany → 2 ^ 40 ≤ length history }
     {
         let goes_on = self.read(alloc, reader, recording, event)?;
         if goes_on {
@@ -177,7 +181,9 @@ impl Session {
         ensures fault { result ≡ Ok true → self.new.notes.fault ≡ self.old.notes.fault }
         ensures judging { self.new.audit.judge.judging ≡ self.old.audit.judge.judging }
         ensures wanted { self.new.kept.wanted ≡ self.old.kept.wanted }
-        ensures why { (file : Option (List ℕ)) → IfErr result (IsReadFaultOf file) }
+        ensures why { result ≢ Err ReadFault.TooMany → IfErr result IsMemoryFault }
+        ensures many { (named out : List ℕ) (history : List Step) (carried : List Carried) (s : Noticed) → IsReadAfter self.old named out history carried s
+            → result ≡ Err ReadFault.TooMany → 2 ^ 40 ≤ length history }
     {
         match self.audit.next_into(alloc, reader, recording, event) {
             Ok(NextFrame::End) => Ok(false),
@@ -199,7 +205,7 @@ impl Session {
         ensures over { result ≢ Ok true }
         ensures told { fault.kind ≢ Kind.Memory → result ≡ Ok false }
         ensures kept { self.new.kept ≡ self.old.kept }
-        ensures why { (file : Option (List ℕ)) → IfErr result (IsReadFaultOf file) }
+        ensures why { IfErr result IsMemoryFault }
     {
         if let FaultKind::Memory = fault.kind {
             return Err(ReadFault::Memory);
@@ -256,7 +262,7 @@ impl Session {
             → IsCarriedBy event.old given carried c → a.place ≡ (framed_after named carried c).placed.place
             → AreTextsKept self.old.kept named carried → OnOk result (AreTextsKept self.new.kept named (c ∷ carried)) }
         ensures wanted { self.new.kept.wanted ≡ self.old.kept.wanted }
-        ensures why { (file : Option (List ℕ)) → IfErr result (IsReadFaultOf file) }
+        ensures why { IfErr result IsMemoryFault }
     {
         self.notes.lose(alloc, event.old())?;
         self.notes.lose_all(alloc, event.take_ousted(alloc))?;
@@ -306,7 +312,7 @@ impl Session {
             → IsCarriedBy event.now given carried c → a.place ≡ (framed_after named carried c).placed.place
             → AreTextsKept self.old.kept named carried → OnOk result (AreTextsKept self.new.kept named (c ∷ carried)) }
         ensures wanted { self.new.kept.wanted ≡ self.old.kept.wanted }
-        ensures why { (file : Option (List ℕ)) → IfErr result (IsReadFaultOf file) }
+        ensures why { IfErr result IsMemoryFault }
     {
         match event.fate() {
             Fate::Datagram(datagram) => self.pass(alloc, event, &datagram, found),
@@ -356,7 +362,7 @@ impl Session {
             → a.place ≡ (framed_after named carried c).placed.place
             → AreTextsKept self.old.kept named carried → OnOk result (AreTextsKept self.new.kept named (c ∷ carried)) }
         ensures wanted { self.new.kept.wanted ≡ self.old.kept.wanted }
-        ensures why { (file : Option (List ℕ)) → IfErr result (IsReadFaultOf file) }
+        ensures why { IfErr result IsMemoryFault }
     {
         let Some(found) = found else {
             return Ok(());
@@ -370,6 +376,7 @@ impl Session {
             is_doubtful: event.is_doubtful(),
             has_error: event.has_error(),
             has_wrong_checksum: is_wrong(event.checksum()),
+            is_joined: is_joined(event.checksum(), datagram.payload),
             source: source.end,
             target: target.end,
             payload: datagram.payload,
@@ -563,7 +570,8 @@ fn is_wrong(checksum: Checksum) -> bool
 /// The judges take no datagram any more.
 fn refuse(fault: AttributionFault) -> Result<bool, ReadFault>
     ensures refuses { IsErr result }
-    ensures why { (file : Option (List ℕ)) → IfErr result (IsReadFaultOf file) }
+    ensures why { result ≢ Err ReadFault.TooMany → IfErr result IsMemoryFault }
+    ensures many { result ≡ Err ReadFault.TooMany → fault ≡ AttributionFault.TooMany }
 {
     match fault {
         AttributionFault::Memory => Err(ReadFault::Memory),

@@ -48,6 +48,7 @@ impl Unreached {
     /// Hands out that of the transfer with this number, where there is one.
     pub fn take(&mut self, number: u64) -> Option<Undelivered>
         ensures is { result ≡ get nat_cmp self.old.last number }
+        ensures gone { get nat_cmp self.new.last number ≡ None }
         ensures others { (n : ℕ) → (number == n) ≡ false → get nat_cmp self.new.last n ≡ get nat_cmp self.old.last n }
     {
         self.last.remove(&number)

@@ -2,6 +2,7 @@ use Rattle.std.proofs.Common.{Ok, ◌∙◌, ap, subst}
 use Rattle.tftp_rows.specs.declared.remarks.Remarks.{Remarks}
 use Rattle.tftp_match.specs.Captures.{IsCaptureOf, IsNoted, capture_of}
 use Rattle.tftp_match.proofs.MatchingLemmas.{kept_is}
+use Rattle.tftp_match.proofs.UnreadLemmas.{unread_is}
 use Rattle.tftp_match.proofs.judging.begun.Goals as goal
 
 pub returns-clause-begun : goal.returns-clause-begun
@@ -13,3 +14,6 @@ returns-clause-begun g c =
       subst (λ (m : Remarks g.row.E.Denot). IsNoted m.program.now c.args.file.now c.args.request.now.services.items capture (g.E.Write.contents m.errors.0) (g.E.Write.contents c.tell_of.new.remarks.errors.0)) kept.1
           (c.in_ok-tell_of.ensures.noted c.args.request.now.services.items),
     )
+
+pub returns-in_default-clause-unread : goal.returns-in_default-clause-unread
+returns-in_default-clause-unread g c = unread_is c.begin-source.result c.told.result _ _ _ c.told.ensures.some c.told.ensures.none (c.in_ok-source.was ∙ ap Ok c.in_default.is) c.begin-source.ensures.why

@@ -2,6 +2,7 @@ use Rattle.std.proofs.Common.{rules, ap, ◌+◌, Ok}
 use Rattle.audit_recording.specs.Session.Kept.{IsSessionAfter}
 use Rattle.audit_recording.specs.Session.Opened.{HasRead, left_of}
 use Rattle.tftp_rows.specs.ListedWhole.{numbers_in}
+use Rattle.audit_recording.proofs.SessionLemmas.Faults.{reading_fault}
 use Rattle.tftp_rows.proofs.FaultLemmas.{same_fault}
 use Rattle.tftp_rows.proofs.ListedLemmas.{end_on, frame_on, frame_on_for, over_on_for, stops_listing, stops_over}
 use Rattle.tftp_rows.proofs.ReadingLemmas.{frame_came, many_frames, none_came}
@@ -63,4 +64,7 @@ returns-clause-why g c begun file named was =
     many_frames file (left_of g.R.Read.remaining c.loop-turn.opened) c.loop-turn.opened.recording listed.0.history c.loop-turn._turn listed.0.read listed.1 (search rules)
 
 pub returns-in_err-next-clause-why : goal.returns-in_err-next-clause-why
-returns-in_err-next-clause-why g c begun file named was = same_fault c.from_residual.result _ _ c.from_residual.ensures.1 (c.in_err-next.ensures.why file)
+returns-in_err-next-clause-why g c begun file named was =
+    let so = (c.loop-turn.invariant.listed begun file named was).0 in
+    same_fault c.from_residual.result _ _ c.from_residual.ensures.1
+    (reading_fault file _ c.in_err-next.ensures.why (c.in_err-next.ensures.many named (numbers_in so.entries) so.history so.carried so.noticed file so.read so.session_is))

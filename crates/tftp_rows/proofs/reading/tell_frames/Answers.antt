@@ -2,6 +2,7 @@ use Rattle.std.proofs.Common.{rules, ap, ◌∷◌, ◌+◌, ◌∙◌, refl, su
 use Rattle.audit_recording.specs.Session.Kept.{IsSessionAfter}
 use Rattle.audit_recording.specs.Session.Opened.{HasRead, left_of, may_lose_in}
 use Rattle.tftp_rows.specs.Whole.{IsReadOn, numbers_of}
+use Rattle.audit_recording.proofs.SessionLemmas.Faults.{reading_fault}
 use Rattle.tftp_rows.proofs.FaultLemmas.{same_fault}
 use Rattle.tftp_rows.proofs.ReadingLemmas.{frame_came, many_frames, none_came, one_frame_more, read_end, read_one, stops_telling, stops_there, told_over_for}
 use Rattle.tftp_rows.proofs.TellingLemmas.{on_err}
@@ -70,4 +71,7 @@ returns-clause-why g c begun file named was =
     many_frames file (left_of g.R.Read.remaining c.loop-turn.opened) c.loop-turn.opened.recording told.0.0 c.loop-turn._turn told.0.4.read told.1 (search rules)
 
 pub returns-in_err-next-clause-why : goal.returns-in_err-next-clause-why
-returns-in_err-next-clause-why g c begun file named was = same_fault c.from_residual.result _ _ c.from_residual.ensures.1 (c.in_err-next.ensures.why file)
+returns-in_err-next-clause-why g c begun file named was =
+    let so = (c.loop-turn.invariant.told begun file named was).0 in
+    same_fault c.from_residual.result _ _ c.from_residual.ensures.1
+    (reading_fault file _ c.in_err-next.ensures.why (c.in_err-next.ensures.many named (numbers_of so.3) so.0 so.1 so.2 file so.4.read so.4.session_is))

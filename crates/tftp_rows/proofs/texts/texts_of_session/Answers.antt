@@ -3,6 +3,7 @@ use Rattle.std.specs.Io.KnownBytes.{Appends}
 use Rattle.audit_recording.specs.Blame.Frames.{whole_of}
 use Rattle.audit_recording.specs.Session.Noted.{frames_in, giving_up}
 use Rattle.audit_recording.specs.Session.Texts.{opened_count}
+use Rattle.audit_recording.proofs.SessionLemmas.Faults.{read_fault}
 use Rattle.tftp_rows.specs.Remarks.{SaysPart, remarks_text, rest_lines}
 use Rattle.tftp_rows.proofs.EachTextLemmas.{all_numbered, each_after, rest_stops, texts_by, texts_stop}
 use Rattle.tftp_rows.proofs.TextsLemmas.{read_by}
@@ -40,4 +41,4 @@ returns g c new wanted fresh =
 pub returns-in_err-read_whole : goal.returns-in_err-read_whole
 returns-in_err-read_whole g c new wanted fresh =
     texts_stop g.W.Write.contents g.E.Write.contents c.args.of.now c.args.remarks.now c.args.remarks.now c.args.writer.now c.args.writer.now (g.R.Read.remaining c.args.reader) c.from_residual.result _ c.from_residual.ensures.1
-    (refl, refl, c.in_err-read_whole.ensures.why)
+    (refl, refl, read_fault (g.R.Read.remaining c.args.reader) _ c.in_err-read_whole.ensures.why (c.in_err-read_whole.ensures.many c.args.of.now.services.now new))

@@ -1,15 +1,15 @@
-use Rattle.std.proofs.Common.{ap, refl, Ok, ◌∙◌}
-use Rattle.audit_recording.specs.Session.Opened.{HasRead}
-use Rattle.audit_recording.proofs.SessionLemmas.Reading.{frame_on, none_on}
-use Rattle.audit_recording.proofs.SessionLemmas.Faults.{same_fault}
+use Rattle.std.proofs.Common.{rules, ap, refl, Ok, ◌∙◌}
+use Rattle.audit_recording.specs.Session.Opened.{HasRead, IsMemoryFault, left_of}
+use Rattle.audit_recording.proofs.SessionLemmas.Reading.{frame_on_for, many_read, none_on}
+use Rattle.audit_recording.proofs.SessionLemmas.Faults.{other_fault, same_error}
 use Rattle.audit_recording.proofs.session.opened.read_frames.Goals as goal
 
 pub loop-turn-init : goal.loop-turn-init
-loop-turn-init g c = record { read = λ file named was. was; goes = λ began. began; wanted = refl }
+loop-turn-init g c = record { read = λ file named was. (was, search rules); goes = λ began. began; wanted = refl }
 
 pub returns-then-not-branch-clause-read : goal.returns-then-not-branch-clause-read
 returns-then-not-branch-clause-read g c file named was =
-    let so = c.loop-turn.invariant.read file named was in
+    let so = (c.loop-turn.invariant.read file named was).0 in
     none_on (HasRead g.R.Read.remaining file c.loop-turn.opened) (HasRead g.R.Read.remaining file c.next.new.self) c.loop-turn.session c.next.new.session named so _ c.if-not-branch.true
     (c.in_ok-next.ensures.goes_on named _ so.history so.carried so.noticed file so.read so.is)
 
@@ -23,11 +23,23 @@ pub loop-turn-preserved : goal.loop-turn-preserved
 loop-turn-preserved g c = record {
   read = λ file named was.
       let so = c.loop-turn.invariant.read file named was in
-      frame_on (HasRead g.R.Read.remaining file c.loop-turn.opened) (HasRead g.R.Read.remaining file c.next.new.self) c.loop-turn.session c.next.new.session named so _ c.if-not-branch.false
-      (c.in_ok-next.ensures.goes_on named _ so.history so.carried so.noticed file so.read so.is);
+      frame_on_for (HasRead g.R.Read.remaining file c.loop-turn.opened) (HasRead g.R.Read.remaining file c.next.new.self) c.loop-turn.session c.next.new.session named c.loop-turn._turn so _ c.if-not-branch.false
+      (c.in_ok-next.ensures.goes_on named _ so.0.history so.0.carried so.0.noticed file so.0.read so.0.is);
   goes = λ began. c.in_ok-next.ensures.goes (ap Ok c.if-not-branch.false);
   wanted = c.in_ok-next.ensures.wanted ∙ c.loop-turn.invariant.wanted;
 }
 
 pub returns-in_err-next-clause-why : goal.returns-in_err-next-clause-why
-returns-in_err-next-clause-why g c file = same_fault c.from_residual.result _ _ c.from_residual.ensures.1 (c.in_err-next.ensures.why file)
+returns-in_err-next-clause-why g c other = other_fault c.from_residual.result _ _ IsMemoryFault c.from_residual.ensures.1 c.in_err-next.ensures.why other
+
+pub returns-in_err-next-clause-many : goal.returns-in_err-next-clause-many
+returns-in_err-next-clause-many g c file named was many =
+    let so = (c.loop-turn.invariant.read file named was).0 in
+    c.in_err-next.ensures.many named _ so.history so.carried so.noticed file so.read so.is (same_error c.from_residual.result _ _ c.from_residual.ensures.1 many)
+
+pub returns-clause-why : goal.returns-clause-why
+returns-clause-why g c other = absurd (other refl)
+
+pub returns-clause-many : goal.returns-clause-many
+returns-clause-many g c file named was many =
+    many_read file (left_of g.R.Read.remaining c.loop-turn.opened) c.loop-turn.opened.recording c.loop-turn.session named c.loop-turn._turn (c.loop-turn.invariant.read file named was) (search rules)

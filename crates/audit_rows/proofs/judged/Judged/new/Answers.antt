@@ -22,6 +22,8 @@ returns-clause-judged c x named carried after watching =
         copied_from = c.doubted-doubted.ensures.copied_from;
         damaged = c.doubted-doubted.ensures.damaged;
         discarded = c.doubted-doubted.ensures.discarded;
+        joined = c.doubted-doubted.ensures.joined;
+        goes_on = c.doubted-doubted.ensures.goes_on;
         left_out = c.doubted-doubted.ensures.left_out;
       };
       at_client = seen c.at_client.result (λ it. AtEnd it) c.finish-client.result.client c.at_client.ensures.found ∙ points.client;

@@ -4,7 +4,9 @@ use Rattle.net_streams.specs.{Open}
 use Rattle.net_streams.specs.Streams.{standing_after}
 use Rattle.net_udp.specs.Recording.{StandsFor, Step, standing_of, with_step}
 use Rattle.audit_recording.specs.Audit.{AuditsAfter, IsOfEvent}
+use Rattle.audit_views.specs.Parties.{host_name}
 use Rattle.audit_recording.proofs.AuditLemmas.Taking.{counted, noted_goes_on}
+use Rattle.audit_recording.proofs.JudgesLemmas.Keeping.{many_passed}
 use Rattle.audit_recording.proofs.audit.audit.RecordingAudit.next_into.Goals as goal
 
 pub returns-in-Ok-true-clause-continues : goal.returns-in-Ok-true-clause-continues
@@ -46,3 +48,7 @@ pub returns-in-Ok-true-clause-goes : goal.returns-in-Ok-true-clause-goes
 returns-in-Ok-true-clause-goes g c next is other =
     let ok : Bool → Result Bool PcapFault = λ b. Ok b in
     c.in-Ok-true.ensures.standing ∙ ap (λ (b : Bool). standing_after (ok b)) c.in-Ok-true.field-0-test
+
+pub returns-in-Ok-true-clause-many : goal.returns-in-Ok-true-clause-many
+returns-in-Ok-true-clause-many g c named out history passed after is =
+    many_passed c.args.self.now.judge named host_name out passed after.judges (c.note.ensures.full is)

@@ -2,7 +2,7 @@ use Rattle.std.proofs.Common.{refl, rules, sym, subst}
 use Rattle.audit_views.specs.Views.{Client, View}
 use Rattle.audit_recording.specs.Between.{View as Between}
 use Rattle.audit_recording.specs.Judges.{AreJudgesAfter, AreOf, Judges}
-use Rattle.audit_recording.proofs.JudgesLemmas.Watching.{away_of}
+use Rattle.audit_recording.proofs.JudgesLemmas.Watching.{away_of, both_higher}
 use Rattle.audit_recording.proofs.judges.judges.Judges.feed.Goals as goal
 
 pub returns-in_err-feed-clause-others : goal.returns-in_err-feed-clause-others
@@ -40,4 +40,9 @@ returns-clause-after g c rollover x name p older after fed =
       client = c.in_ok-feed.ensures.stands rollover x name p older all.client fed;
       server = c.in_ok-feed-2.ensures.stands rollover x name p older all.server fed;
       between = c.in_ok-feed-3.ensures.stands rollover x name p older all.between fed;
+      counted = record {
+        client = both_higher _ _ p older c.in_ok-feed.ensures.counts all.counted.client;
+        server = both_higher _ _ p older c.in_ok-feed-2.ensures.counts all.counted.server;
+        between = both_higher _ _ p older c.in_ok-feed-3.ensures.counts all.counted.between;
+      };
     }

@@ -3,7 +3,7 @@ use Rattle.std.proofs.KnownBytes.{Consumes-trans}
 use Rattle.net_pcap.proofs.Lossless.{more_classic}
 use Rattle.net_udp.specs.Recording.{StandsFor}
 use Rattle.audit_recording.specs.Session.Kept.{IsSessionAfter}
-use Rattle.audit_recording.specs.Session.Opened.{HasRead}
+use Rattle.audit_recording.specs.Session.Opened.{HasRead, left_of}
 use Rattle.audit_recording.specs.declared.session.session.Session.{Session}
 use Rattle.audit_recording.proofs.SessionLemmas.Opened.{how_ended, may_lose_too, reads_as}
 use Rattle.audit_recording.proofs.session.opened.Opened.next.Goals as goal
@@ -23,3 +23,7 @@ returns-clause-goes_on g c named out history carried s file read is =
 
 pub returns-clause-ends : goal.returns-clause-ends
 returns-clause-ends g c e = how_ended (c.next-goes_on.ensures.ends e)
+
+pub returns-clause-many : goal.returns-clause-many
+returns-clause-many g c named out history carried s file read is many =
+    (history, (c.args.self.now.recording, read.0, left_of g.R.Read.remaining c.args.self.now, read.1, read.2), c.next-goes_on.ensures.many named out history carried s is many)

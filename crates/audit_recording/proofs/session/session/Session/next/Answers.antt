@@ -3,9 +3,10 @@ use Rattle.net_udp.specs.Recording.{StandsFor}
 use Rattle.audit_recording.specs.declared.session.fault.ReadFault.{ReadFault}
 use Rattle.audit_recording.specs.Session.Heard.{AreUnreachedKept}
 use Rattle.audit_recording.specs.Session.Kept.{AddsFrame, IsReadAfter, IsSessionAfter, ReadsOn}
+use Rattle.audit_recording.specs.Session.Opened.{IsMemoryFault}
 use Rattle.audit_recording.specs.declared.session.session.Session.{Session}
 use Rattle.audit_recording.specs.declared.session.unreached.Unreached.{Unreached}
-use Rattle.audit_recording.proofs.SessionLemmas.Faults.{same_fault}
+use Rattle.audit_recording.proofs.SessionLemmas.Faults.{not_many, other_fault, same_error, same_fault}
 use Rattle.audit_recording.proofs.SessionLemmas.Hearing.{as_heard, as_read, frame_added, kept_before}
 use Rattle.audit_recording.proofs.SessionLemmas.Recording.{errs_so}
 use Rattle.audit_recording.proofs.SessionLemmas.Trails.{always_err}
@@ -25,7 +26,18 @@ returns-in_err-goes_on-clause-goes_on g c named out bytes history carried s stan
     )
 
 pub returns-in_err-goes_on-clause-why : goal.returns-in_err-goes_on-clause-why
-returns-in_err-goes_on-clause-why g c file = same_fault c.from_residual.result _ _ c.from_residual.ensures.1 (c.in_err-goes_on.ensures.why file)
+returns-in_err-goes_on-clause-why g c other = other_fault c.from_residual.result _ _ IsMemoryFault c.from_residual.ensures.1 c.in_err-goes_on.ensures.why other
+
+pub returns-in_err-goes_on-clause-many : goal.returns-in_err-goes_on-clause-many
+returns-in_err-goes_on-clause-many g c named out history carried s is many =
+    c.in_err-goes_on.ensures.many named out history carried s (as_read c.args.self.now named out history carried s is) (same_error c.from_residual.result _ _ c.from_residual.ensures.1 many)
+
+pub returns-in_err-hear-clause-why : goal.returns-in_err-hear-clause-why
+returns-in_err-hear-clause-why g c other = same_fault c.from_residual-in_err-hear.result _ IsMemoryFault c.from_residual-in_err-hear.ensures.1 tt
+
+pub returns-in_err-hear-clause-many : goal.returns-in_err-hear-clause-many
+returns-in_err-hear-clause-many g c named out history carried s is many =
+    absurd (not_many c.from_residual-in_err-hear.result (same_fault c.from_residual-in_err-hear.result _ IsMemoryFault c.from_residual-in_err-hear.ensures.1 tt) many)
 
 pub returns-in_err-hear-clause-goes_on : goal.returns-in_err-hear-clause-goes_on
 returns-in_err-hear-clause-goes_on g c named out bytes history carried s stands is =

@@ -93,13 +93,13 @@ returns-in_ok-discard-in-Discarded-clause-texts c named carried x a given is cam
     absurd (not_discarded c.args.event.now given c.in-Discarded.datagram came c.in-Discarded.ensures.is)
 
 pub returns-in_err-leave-in-Left-clause-why : goal.returns-in_err-leave-in-Left-clause-why
-returns-in_err-leave-in-Left-clause-why c file = same_fault c.from_residual.result _ _ c.from_residual.ensures.1 tt
+returns-in_err-leave-in-Left-clause-why c = same_fault c.from_residual.result _ _ c.from_residual.ensures.1 tt
 
 pub returns-in_err-wait-in-Waits-clause-why : goal.returns-in_err-wait-in-Waits-clause-why
-returns-in_err-wait-in-Waits-clause-why c file = same_fault c.from_residual-in_err-wait-in-Waits.result _ _ c.from_residual-in_err-wait-in-Waits.ensures.1 tt
+returns-in_err-wait-in-Waits-clause-why c = same_fault c.from_residual-in_err-wait-in-Waits.result _ _ c.from_residual-in_err-wait-in-Waits.ensures.1 tt
 
 pub returns-in_err-discard-in-Discarded-clause-why : goal.returns-in_err-discard-in-Discarded-clause-why
-returns-in_err-discard-in-Discarded-clause-why c file = same_fault c.from_residual-in_err-discard-in-Discarded.result _ _ c.from_residual-in_err-discard-in-Discarded.ensures.1 tt
+returns-in_err-discard-in-Discarded-clause-why c = same_fault c.from_residual-in_err-discard-in-Discarded.result _ _ c.from_residual-in_err-discard-in-Discarded.ensures.1 tt
 
 pub returns-in-Datagram-clause-marks : goal.returns-in-Datagram-clause-marks
 returns-in-Datagram-clause-marks c named out history carried s x a given is came carries at handed audit trails_kept later are gone kept =

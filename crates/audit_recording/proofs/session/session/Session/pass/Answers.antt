@@ -10,6 +10,7 @@ use Rattle.audit_recording.specs.Session.Recording.{asking, beginning, joining, 
 use Rattle.audit_recording.specs.Audit.Audited.{IsAttributed}
 use Rattle.audit_recording.specs.Blame.Frames.{Framed, datagrams_of, framed_after}
 use Rattle.audit_recording.specs.Blame.Kept.{IsPassing, is_wrong}
+use Rattle.audit_recording.specs.Blame.Several.{is_joined}
 use Rattle.audit_recording.specs.Session.Strays.{Stray}
 use Rattle.audit_recording.specs.Session.Texts.{AreTextsKept}
 use Rattle.audit_recording.specs.declared.blame.passing.Passing.{Passing}
@@ -54,6 +55,7 @@ returns-clause-trails c named out history carried d a is carries at handed audit
       is_doubtful = c.is_doubtful.result;
       has_error = c.has_error.result;
       has_wrong_checksum = c.is_wrong.result;
+      is_joined = c.is_joined.result;
       source = c.party_of-source.result.end;
       target = c.party_of-target.result.end;
       payload = c.args.datagram.now.payload;
@@ -64,6 +66,7 @@ returns-clause-trails c named out history carried d a is carries at handed audit
       is_doubtful = c.is_doubtful.ensures ∙ sym carries.is_doubtful;
       has_error = c.has_error.ensures ∙ sym carries.has_error;
       has_wrong_checksum = c.is_wrong.ensures ∙ ap is_wrong (c.checksum.ensures ∙ sym carries.checksum);
+      is_joined = c.is_joined.ensures ∙ (λ i. is_joined ((c.checksum-2.ensures ∙ sym carries.checksum) i) (sym carries.taken.payload i));
       source = c.party_of-source.ensures.end ∙ sym carries.taken.source;
       target = c.party_of-target.ensures.end ∙ sym carries.taken.target;
       payload = sym carries.taken.payload;
@@ -91,6 +94,7 @@ returns-clause-texts c named carried d a is carries at kept =
       is_doubtful = c.is_doubtful.result;
       has_error = c.has_error.result;
       has_wrong_checksum = c.is_wrong.result;
+      is_joined = c.is_joined.result;
       source = c.party_of-source.result.end;
       target = c.party_of-target.result.end;
       payload = c.args.datagram.now.payload;
@@ -101,6 +105,7 @@ returns-clause-texts c named carried d a is carries at kept =
       is_doubtful = c.is_doubtful.ensures ∙ sym carries.is_doubtful;
       has_error = c.has_error.ensures ∙ sym carries.has_error;
       has_wrong_checksum = c.is_wrong.ensures ∙ ap is_wrong (c.checksum.ensures ∙ sym carries.checksum);
+      is_joined = c.is_joined.ensures ∙ (λ i. is_joined ((c.checksum-2.ensures ∙ sym carries.checksum) i) (sym carries.taken.payload i));
       source = c.party_of-source.ensures.end ∙ sym carries.taken.source;
       target = c.party_of-target.ensures.end ∙ sym carries.taken.target;
       payload = sym carries.taken.payload;
@@ -109,19 +114,19 @@ returns-clause-texts c named carried d a is carries at kept =
     subst (λ (k : Kept). AreTextsKept k named (d ∷ carried)) (sym c.follow.ensures.kept) noted
 
 pub returns-in_err-find-clause-why : goal.returns-in_err-find-clause-why
-returns-in_err-find-clause-why c file = same_fault c.from_residual.result _ _ c.from_residual.ensures.1 tt
+returns-in_err-find-clause-why c = same_fault c.from_residual.result _ _ c.from_residual.ensures.1 tt
 
 pub returns-in_err-pass-clause-why : goal.returns-in_err-pass-clause-why
-returns-in_err-pass-clause-why c file = same_fault c.from_residual-in_err-pass.result _ _ c.from_residual-in_err-pass.ensures.1 tt
+returns-in_err-pass-clause-why c = same_fault c.from_residual-in_err-pass.result _ _ c.from_residual-in_err-pass.ensures.1 tt
 
 pub returns-in_err-ask-clause-why : goal.returns-in_err-ask-clause-why
-returns-in_err-ask-clause-why c file = same_fault c.from_residual-in_err-ask.result _ _ c.from_residual-in_err-ask.ensures.1 tt
+returns-in_err-ask-clause-why c = same_fault c.from_residual-in_err-ask.result _ _ c.from_residual-in_err-ask.ensures.1 tt
 
 pub returns-in_err-note-clause-why : goal.returns-in_err-note-clause-why
-returns-in_err-note-clause-why c file = same_fault c.from_residual-in_err-note.result _ _ c.from_residual-in_err-note.ensures.1 tt
+returns-in_err-note-clause-why c = same_fault c.from_residual-in_err-note.result _ _ c.from_residual-in_err-note.ensures.1 tt
 
 pub returns-in_err-follow-clause-why : goal.returns-in_err-follow-clause-why
-returns-in_err-follow-clause-why c file = same_fault c.from_residual-in_err-follow.result _ _ c.from_residual-in_err-follow.ensures.1 tt
+returns-in_err-follow-clause-why c = same_fault c.from_residual-in_err-follow.result _ _ c.from_residual-in_err-follow.ensures.1 tt
 
 pub returns-clause-marks : goal.returns-clause-marks
 returns-clause-marks c named out history carried s d a is carries at handed audit trails_kept later are gone kept =
@@ -146,6 +151,7 @@ returns-clause-marks c named out history carried s d a is carries at handed audi
       is_doubtful = c.is_doubtful.result;
       has_error = c.has_error.result;
       has_wrong_checksum = c.is_wrong.result;
+      is_joined = c.is_joined.result;
       source = c.party_of-source.result.end;
       target = c.party_of-target.result.end;
       payload = c.args.datagram.now.payload;
@@ -156,6 +162,7 @@ returns-clause-marks c named out history carried s d a is carries at handed audi
       is_doubtful = c.is_doubtful.ensures ∙ sym carries.is_doubtful;
       has_error = c.has_error.ensures ∙ sym carries.has_error;
       has_wrong_checksum = c.is_wrong.ensures ∙ ap is_wrong (c.checksum.ensures ∙ sym carries.checksum);
+      is_joined = c.is_joined.ensures ∙ (λ i. is_joined ((c.checksum-2.ensures ∙ sym carries.checksum) i) (sym carries.taken.payload i));
       source = source;
       target = c.party_of-target.ensures.end ∙ sym carries.taken.target;
       payload = sym carries.taken.payload;

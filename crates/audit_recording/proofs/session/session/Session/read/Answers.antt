@@ -3,6 +3,7 @@ use Rattle.std.specs.BTreeMap.{BTreeMap}
 use Rattle.net_pcap.specs.{FrameState}
 use Rattle.net_udp.specs.Recording.{StandsFor, Step}
 use Rattle.audit_recording.specs.Audit.{AuditsAfter, GoesOn, RecordingAudit}
+use Rattle.audit_flows.specs.{AttributionFault}
 use Rattle.audit_recording.specs.{AuditFault, NextFrame}
 use Rattle.audit_recording.specs.declared.audit.next.NextFrame.TheVariants.{Datagram, Nothing}
 use Rattle.audit_recording.specs.Blame.Frames.{Carried, datagrams_of}
@@ -16,6 +17,9 @@ use Rattle.audit_recording.specs.declared.blame.trail.Trail.{Trail}
 use Rattle.audit_recording.specs.declared.judges.judging.Judging.{Judging}
 use Rattle.audit_recording.specs.declared.session.kept.Kept.{Kept as KeptTexts}
 use Rattle.audit_recording.specs.declared.session.unplaced.Unplaced.{Unplaced}
+use Rattle.audit_recording.specs.declared.audit.next.AuditFault.TheVariants.{Judges}
+use Rattle.audit_recording.proofs.AuditLemmas.Counted.{many_frames}
+use Rattle.audit_recording.proofs.SessionLemmas.Faults.{not_many}
 use Rattle.audit_recording.proofs.SessionLemmas.Recording.{always, carry, errs_so, gives_none, is_carried, reads_on, stops_so}
 use Rattle.audit_recording.proofs.SessionLemmas.Heard.{frame_of}
 use Rattle.audit_recording.proofs.SessionLemmas.Trails.{always_err, on_ok_both, told_too}
@@ -213,3 +217,18 @@ returns-in-Ok-Nothing-clause-goes g c goes = c.in-Ok-Nothing.ensures.goes Nothin
 
 pub returns-in-Ok-Datagram-clause-goes : goal.returns-in-Ok-Datagram-clause-goes
 returns-in-Ok-Datagram-clause-goes g c goes = c.in-Ok-Datagram.ensures.goes (Datagram c.in-Ok-Datagram.found) (ap Ok c.in-Ok-Datagram.field-0-is) (λ e. absurd (cc))
+
+pub returns-in-Ok-Nothing-clause-many : goal.returns-in-Ok-Nothing-clause-many
+returns-in-Ok-Nothing-clause-many g c named out history carried s is many = absurd (not_many c.take.result c.take.ensures.why many)
+
+pub returns-in-Ok-Datagram-clause-many : goal.returns-in-Ok-Datagram-clause-many
+returns-in-Ok-Datagram-clause-many g c named out history carried s is many = absurd (not_many c.take-in-Ok-Datagram.result c.take-in-Ok-Datagram.ensures.why many)
+
+pub returns-in-Err-Recording-clause-many : goal.returns-in-Err-Recording-clause-many
+returns-in-Err-Recording-clause-many g c named out history carried s is many = absurd (not_many c.stop.result c.stop.ensures.why many)
+
+pub returns-in-Err-Judges-clause-many : goal.returns-in-Err-Judges-clause-many
+returns-in-Err-Judges-clause-many g c named out history carried s is many =
+    let told : c.in-Err-Judges.fault ≡ AttributionFault.TooMany = rw c.in-Err-Judges.field-0-is at (c.refuse.ensures.many many) in
+    many_frames history (datagrams_of carried) is.kept.audit.frames
+    (c.in-Err-Judges.ensures.many named out history (datagrams_of carried) is.kept.audit (ap Err (c.in-Err-Judges.field-0-is ∙ ap Judges told)))

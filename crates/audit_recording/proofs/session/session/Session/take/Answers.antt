@@ -121,10 +121,10 @@ returns-clause-texts c named carried x a given is came carries at kept =
     same (λ came_so carries_so. c.in_ok-note.ensures.texts named carried x a given is came_so carries_so at kept) came (carried_bare event given carried x carries)
 
 pub returns-in_err-lose-clause-why : goal.returns-in_err-lose-clause-why
-returns-in_err-lose-clause-why c file = same_fault c.from_residual.result _ _ c.from_residual.ensures.1 tt
+returns-in_err-lose-clause-why c = same_fault c.from_residual.result _ _ c.from_residual.ensures.1 tt
 
 pub returns-in_err-lose_all-clause-why : goal.returns-in_err-lose_all-clause-why
-returns-in_err-lose_all-clause-why c file = same_fault c.from_residual-in_err-lose_all.result _ _ c.from_residual-in_err-lose_all.ensures.1 tt
+returns-in_err-lose_all-clause-why c = same_fault c.from_residual-in_err-lose_all.result _ _ c.from_residual-in_err-lose_all.ensures.1 tt
 
 pub returns-in_err-note-clause-why : goal.returns-in_err-note-clause-why
-returns-in_err-note-clause-why c file = same_fault c.from_residual-in_err-note.result _ _ c.from_residual-in_err-note.ensures.1 (c.in_err-note.ensures.why file)
+returns-in_err-note-clause-why c = same_fault c.from_residual-in_err-note.result _ _ c.from_residual-in_err-note.ensures.1 c.in_err-note.ensures.why
