@@ -47,9 +47,9 @@ pub fault_of_file : (file held : Option (List ℕ)) (fault : ReadFault) → IfSo
 fault_of_file (Some bytes) held fault is why = subst (λ h. IsReadFaultOf h fault) is why
 fault_of_file None held (ReadFault.NoRecording words) is (left, fault, fails, same) = (left, fault, record { taken = fails.taken; ahead = fails.ahead; consumed = tt; tells = fails.tells; text = fails.text }, same)
 fault_of_file None held (ReadFault.Format kind) is (left, fault, fails, same) = (left, fault, record { taken = fails.taken; ahead = fails.ahead; consumed = tt; tells = fails.tells; text = fails.text }, same)
-fault_of_file None held ReadFault.Memory is why = tt
+fault_of_file None held (ReadFault.Memory frame) is (inl none) = inl none
+fault_of_file None held (ReadFault.Memory frame) is (inr (history, (recording, bytes, left, consumed, stands), many)) = inr (history, (recording, bytes, left, tt, stands), many)
 fault_of_file None held ReadFault.TooMany is (history, (recording, bytes, left, consumed, stands), many) = (history, (recording, bytes, left, tt, stands), many)
-fault_of_file None held (ReadFault.Alloc error) is why = tt
 
 -- ---- what is told
 

@@ -1,8 +1,9 @@
 -- The texts of transfers, one behind the other: with one more, and where a fault comes.
-use Rattle.std.proofs.Common.{arith, ◌≡◌, ◌+◌, ◌++◌, ◌∷◌, ℕ, Bool, true, false, List, [], append_assoc, append-nil, length, Option, Some, None, Result, Ok, Err, IsErrAnd, inr, refl, sym, ap, subst, ◌∙◌, if◌then◌else◌}
+use Rattle.std.proofs.Common.{arith, ◌≡◌, ◌+◌, ◌++◌, ◌∷◌, ℕ, Bool, true, false, List, [], append_assoc, append-nil, length, Option, Some, None, Result, Ok, Err, IsErrAnd, refl, sym, ap, subst, ◌∙◌, if◌then◌else◌}
 use Rattle.std.specs.Io.KnownBytes.{Appends}
 use Rattle.std.proofs.KnownBytes.{Appends-nil, Appends-trans}
 use Rattle.std.proofs.lemmas.Grind.{flat_map-append}
+use Rattle.std.specs.declared.alloc.AllocError.{AllocError}
 use Rattle.net_streams.specs.Streams.{IsFresh, Sink}
 use Rattle.std.specs.List.{slice_get}
 use Rattle.audit_recording.proofs.SessionLemmas.Ordered.{count_is, ordinal_at}
@@ -228,7 +229,7 @@ module _ {W E : Type 0} (contents : W → Option (List ℕ)) (errors : E → Opt
   texts_by notes read (Err fault) stops = by fault stops where
     by : (fault : TellFault) → AreSomeWritten contents errors of remarks told writer written notes read.carried (noticed_by read) (lines_of contents errors of remarks told writer written file read) fault
         → AreTextsStopped contents errors of remarks told writer written file fault
-    by (TellFault.Alloc error) stops = inr (notes, read, stops)
+    by (TellFault.Alloc error) stops = (notes, read, stops)
     by (TellFault.Remark error) stops = (notes, read, stops)
     by (TellFault.Text fault) stops = (notes, read, stops)
     by TellFault.Unwritten stops = (notes, read, stops)
@@ -258,7 +259,7 @@ module _ {W E : Type 0} (contents : W → Option (List ℕ)) (errors : E → Opt
     }
 
     by : (fault : TellFault) → IsRemarkFault told.errors.1 fault → AreTextsStopped contents errors of remarks told writer written file fault
-    by (TellFault.Alloc error) why = inr (notes, read, none)
+    by (TellFault.Alloc error) why = (notes, read, none)
     by (TellFault.Remark error) why = (notes, read, (none, why))
     by (TellFault.Text fault) why = absurd why
     by TellFault.Unwritten why = absurd why
@@ -266,6 +267,11 @@ module _ {W E : Type 0} (contents : W → Option (List ℕ)) (errors : E → Opt
     by (TellFault.Print fault) why = absurd why
     by TellFault.TooMany why = absurd why
     by TellFault.TooManyFrames why = absurd why
+
+  -- memory was refused, and nothing is told
+  pub none_told : (notes : Notes) (read : IsRecordingRead file of.services.now notes) (error : AllocError) → written ≡ writer
+      → IsSaid errors remarks told of SaysPart (lines_of contents errors of remarks told writer written file read) → AreTextsStopped contents errors of remarks told writer written file (TellFault.Alloc error)
+  none_told notes read error stays said = rest_stops notes read (TellFault.Alloc error) tt stays said
 
   -- ---- of a file that was opened
 

@@ -35,7 +35,7 @@ remark_later u v (TellFault.Text fault) later p = absurd p
 remark_later u v TellFault.Unwritten later p = absurd p
 
 pub tell_later : (file : Option (List ℕ)) (u v : Bool) (told : ℕ) (fault : TellFault) → (u ≡ true → v ≡ true) → IsTellFault file u told fault → IsTellFault file v told fault
-tell_later file u v told (TellFault.Alloc error) later p = p
+tell_later file u v told (TellFault.Alloc error) later p = absurd p
 tell_later file u v told (TellFault.Read fault) later p = p
 tell_later file u v told (TellFault.Print fault) later p = print_later u v fault later p
 tell_later file u v told TellFault.TooMany later p = p

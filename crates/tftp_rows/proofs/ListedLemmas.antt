@@ -273,10 +273,10 @@ module _ {W : Type 0} (contents : W → Option (List ℕ)) where
     prints = subst (λ (p : RowPrinter W). PrintsPart contents list_lines begun.printer p []) (sym same) (prints_all_so contents list_lines begun.printer begun.printer [] (prints_nothing contents list_lines begun.printer));
   }
 
-  stopped : {Q : List ℕ → Type 0} (begun now : Lister W) (file left : Option (List ℕ)) (recording : RecordingState) (named : List ℕ) (history : List Step) (carried : List Carried) (s : Noticed)
-      → (bytes : List ℕ) × Consumes file left bytes × StandsFor recording bytes history × Q bytes → IsNoticedOf named history carried s → IsPart begun now named None (so_far history carried s)
+  stopped : (Q : List ℕ → List Step → Type 0) (begun now : Lister W) (file left : Option (List ℕ)) (recording : RecordingState) (named : List ℕ) (history : List Step) (carried : List Carried) (s : Noticed)
+      → (bytes : List ℕ) × Consumes file left bytes × StandsFor recording bytes history × Q bytes history → IsNoticedOf named history carried s → IsPart begun now named None (so_far history carried s)
       → IsRecordingListedInPart contents begun now file named
-  stopped begun now file left recording named history carried s read came part = record {
+  stopped Q begun now file left recording named history carried s read came part = record {
     history = history;
     carried = carried;
     noticed = s;
@@ -291,23 +291,23 @@ module _ {W : Type 0} (contents : W → Option (List ℕ)) where
   }
 
   -- what was read before was listed as it should be
-  pub stops_listing : {Q : List ℕ → Type 0} (begun now : Lister W) (file left : Option (List ℕ)) (recording : RecordingState) (session : Session) (named : List ℕ)
-      → IsListedOn contents begun now (λ history. (bytes : List ℕ) × Consumes file left bytes × StandsFor recording bytes history × Q bytes) session named
+  pub stops_listing : {Q : List ℕ → List Step → Type 0} (begun now : Lister W) (file left : Option (List ℕ)) (recording : RecordingState) (session : Session) (named : List ℕ)
+      → IsListedOn contents begun now (λ history. (bytes : List ℕ) × Consumes file left bytes × StandsFor recording bytes history × Q bytes history) session named
       → IsRecordingListedInPart contents begun now file named
-  stops_listing begun now file left recording session named is =
-      stopped begun now file left recording named is.history is.carried is.noticed is.read is.session_is.noticed
+  stops_listing {Q} begun now file left recording session named is =
+      stopped Q begun now file left recording named is.history is.carried is.noticed is.read is.session_is.noticed
       (all_so begun now named None (so_far is.history is.carried is.noticed) is.entries is.has_listed)
 
   -- what is over is listed, and the last one in part
-  pub stops_over : {Q : List ℕ → Type 0} (begun old new : Lister W) (file left : Option (List ℕ)) (recording : RecordingState) (before : Session) (named : List ℕ)
-      → (is : IsListedOn contents begun old (λ frames. (bytes : List ℕ) × Consumes file left bytes × StandsFor recording bytes frames × Q bytes) before named)
+  pub stops_over : {Q : List ℕ → List Step → Type 0} (begun old new : Lister W) (file left : Option (List ℕ)) (recording : RecordingState) (before : Session) (named : List ℕ)
+      → (is : IsListedOn contents begun old (λ frames. (bytes : List ℕ) × Consumes file left bytes × StandsFor recording bytes frames × Q bytes frames) before named)
       → ListsTurnsPart contents (λ b. IsOldestOver b named is.carried is.noticed) old new named (numbers_in is.entries) is.history is.carried is.noticed
       → IsRecordingListedInPart contents begun new file named
-  stops_over begun old new file left recording before named is turns =
+  stops_over {Q} begun old new file left recording before named is turns =
       let all = so_far is.history is.carried is.noticed in
       let more = over_turns begun old turns.mid named is.history is.carried is.noticed is.entries turns.between is.session_is.noticed is.has_listed turns.turns in
       let handed = subst (λ out. IsSessionOf turns.between named out is.history is.carried is.noticed) more.2 turns.turns.handed_out in
-      stopped begun new file left recording named is.history is.carried is.noticed is.read is.session_is.noticed
+      stopped Q begun new file left recording named is.history is.carried is.noticed is.read is.session_is.noticed
       (then_part begun turns.mid new named None all all is.noticed more.0 (IsOldestOver turns.between named is.carried is.noticed) more.1
       (λ oldest step. (
         all,
@@ -320,8 +320,8 @@ module _ {W : Type 0} (contents : W → Option (List ℕ)) where
 
   -- ---- the recording is closed
 
-  pub closed_listing : {Q : List ℕ → Type 0} (begun now : Lister W) (file left : Option (List ℕ)) (recording : RecordingState) (before after : Session) (named : List ℕ)
-      → IsListedOn contents begun now (λ history. (bytes : List ℕ) × Consumes file left bytes × StandsFor recording bytes history × Q bytes) before named
+  pub closed_listing : {Q : List ℕ → List Step → Type 0} (begun now : Lister W) (file left : Option (List ℕ)) (recording : RecordingState) (before after : Session) (named : List ℕ)
+      → IsListedOn contents begun now (λ history. (bytes : List ℕ) × Consumes file left bytes × StandsFor recording bytes history × Q bytes history) before named
       → (standing_of recording ≡ Standing.Over → IsAtEnd left) → HasEnded recording before.notes → after.notes.fault ≡ before.notes.fault
       → ((out : List ℕ) (history : List Step) (carried : List Carried) (s : Noticed) → IsSessionAfter before named out history carried s → IsSessionClosed after recording named out history carried s)
       → IsListedThrough contents begun now file after named

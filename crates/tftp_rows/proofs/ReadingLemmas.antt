@@ -13,6 +13,7 @@ use Rattle.audit_recording.specs.Session.Noted.{AreNotesOf, Noticed, frames_in, 
 use Rattle.audit_recording.specs.Session.Opened.{HasEnded, IsSessionClosed, lost_in}
 use Rattle.audit_recording.specs.Session.Over.{IsOldestOver}
 use Rattle.audit_recording.specs.declared.judges.judging.Judging.{Judging}
+use Rattle.audit_recording.specs.declared.session.fault.ReadFault.{ReadFault}
 use Rattle.audit_recording.specs.declared.session.notes.Notes.{Notes}
 use Rattle.audit_recording.specs.declared.session.session.Session.{Session}
 use Rattle.tftp_rows.specs.Faults.{HasManyFrames}
@@ -23,12 +24,12 @@ use Rattle.tftp_rows.proofs.OrderLemmas.{are_in_order, told_longer}
 use Rattle.tftp_rows.proofs.WholeLemmas.{HasToldSo, all_part_next, all_so_far, has_told_all, has_told_so, held_in_part, held_told, loses_too, nothing_told, told_in_turn, told_part, told_so_far}
 
 pub frame_came : (P : List Step → List Carried → Noticed → Type 0) (history : List Step) (carried : List Carried) (s : Noticed) (goes : Bool) → goes ≡ true
-    → ReadsOn P history carried s (Ok goes) → (step : Step) × (all : List Carried) × (t : Noticed) × IsOneMore carried all × P (step ∷ history) all t
+    → ReadsOn {F = ReadFault} P history carried s (Ok goes) → (step : Step) × (all : List Carried) × (t : Noticed) × IsOneMore carried all × P (step ∷ history) all t
 frame_came P history carried s true e p = p
 frame_came P history carried s false e p = absurd (false≢true e)
 
 pub none_came : (P : List Step → List Carried → Noticed → Type 0) (history : List Step) (carried : List Carried) (s : Noticed) (goes : Bool) → goes ≡ false
-    → ReadsOn P history carried s (Ok goes) → P history carried s
+    → ReadsOn {F = ReadFault} P history carried s (Ok goes) → P history carried s
 none_came P history carried s false e p = p
 none_came P history carried s true e p = absurd (false≢true (sym e))
 
@@ -50,9 +51,9 @@ one_frame_more n step history le = grind arith
 at_least : (m n k : ℕ) → m ≤ n → n ≤ k → m ≤ k
 at_least m n k le many = grind arith
 
-pub many_frames : {Q : List ℕ → Type 0} (file left : Option (List ℕ)) (recording : RecordingState) (history : List Step) (n : ℕ) → (bytes : List ℕ) × Consumes file left bytes × StandsFor recording bytes history × Q bytes → n ≤ length history
+pub many_frames : (Q : List ℕ → List Step → Type 0) (file left : Option (List ℕ)) (recording : RecordingState) (history : List Step) (n : ℕ) → (bytes : List ℕ) × Consumes file left bytes × StandsFor recording bytes history × Q bytes history → n ≤ length history
     → 2 ^ 64 - 1 ≤ n → HasManyFrames file
-many_frames file left recording history n read many enough = (history, (recording, read.0, left, read.1, read.2), at_least (2 ^ 64 - 1) n (length history) enough many)
+many_frames Q file left recording history n read many enough = (history, (recording, read.0, left, read.1, read.2), at_least (2 ^ 64 - 1) n (length history) enough many)
 
 module _ {W : Type 0} (contents : W → Option (List ℕ)) (lose : Bool) where
   -- so many frames at least were read, and told as they should be
@@ -147,12 +148,12 @@ module _ {W : Type 0} (contents : W → Option (List ℕ)) (lose : Bool) where
   told_over_for n begun old new yet Is before after named history carried s ts is judges same turns many = (told_over begun old new yet Is before after named history carried s ts is judges same turns, many)
 
   -- the recording is closed
-  pub closed_then : {Q : List ℕ → Type 0} (begun now : Teller W) (file left : Option (List ℕ)) (recording : RecordingState) (before after : Session) (named : List ℕ)
-      → IsReadOn contents begun now lose (λ history. (bytes : List ℕ) × Consumes file left bytes × StandsFor recording bytes history × Q bytes) before named
+  pub closed_then : {Q : List ℕ → List Step → Type 0} (begun now : Teller W) (file left : Option (List ℕ)) (recording : RecordingState) (before after : Session) (named : List ℕ)
+      → IsReadOn contents begun now lose (λ history. (bytes : List ℕ) × Consumes file left bytes × StandsFor recording bytes history × Q bytes history) before named
       → (standing_of recording ≡ Standing.Over → IsAtEnd left) → HasEnded recording before.notes → JudgesAs before after → after.notes.fault ≡ before.notes.fault
       → ((out : List ℕ) (history : List Step) (carried : List Carried) (s : Noticed) → IsSessionAfter before named out history carried s → IsSessionClosed after recording named out history carried s)
-      → ((history : List Step) → (bytes : List ℕ) × Consumes file left bytes × StandsFor recording bytes history × Q bytes → lose ≡ false → lost_in recording ≡ 0)
-      → ((bytes : List ℕ) → Q bytes → lose ≡ false → BeginsAsClassic bytes)
+      → ((history : List Step) → (bytes : List ℕ) × Consumes file left bytes × StandsFor recording bytes history × Q bytes history → lose ≡ false → lost_in recording ≡ 0)
+      → ((bytes : List ℕ) (frames : List Step) → Q bytes frames → lose ≡ false → BeginsAsClassic bytes)
       → IsReadThrough contents begun now file after named
   closed_then begun now file left recording before after named is at_end ended judges fault closes lossless classic = record {
     recording = recording;
@@ -165,7 +166,7 @@ module _ {W : Type 0} (contents : W → Option (List ℕ)) (lose : Bool) where
     closed = closes (numbers_of is.3) is.0 is.1 is.2 is.4.session_is;
     may_lose = lose;
     lossless = lossless is.0 is.4.read;
-    classic = λ none. (is.4.read.0, left, is.4.read.1, classic is.4.read.0 is.4.read.3 none);
+    classic = λ none. (is.4.read.0, left, is.4.read.1, classic is.4.read.0 is.0 is.4.read.3 none);
     has_told = subst (λ (k : Judging). HasTold contents begun now lose k named (so_far is.0 is.1 is.2) is.3) (sym judges) is.4.has_told;
   }
 
@@ -175,9 +176,9 @@ module _ {W : Type 0} (contents : W → Option (List ℕ)) (lose : Bool) where
   judged_as begun now k j named all ts same h = subst (λ (i : Judging). HasTold contents begun now lose i named all ts) same h
 
   -- what was read before was told as it should be
-  pub stops_there : {Q : List ℕ → Type 0} (begun now : Teller W) (file left : Option (List ℕ)) (recording : RecordingState) (session : Session) (judging : Judging) (named : List ℕ)
-      → IsReadOn contents begun now lose (λ history. (bytes : List ℕ) × Consumes file left bytes × StandsFor recording bytes history × Q bytes) session named → session.audit.judge.judging ≡ judging
-      → ((bytes : List ℕ) → Q bytes → lose ≡ false → BeginsAsClassic bytes) → IsReadInPart contents begun now file judging named
+  pub stops_there : {Q : List ℕ → List Step → Type 0} (begun now : Teller W) (file left : Option (List ℕ)) (recording : RecordingState) (session : Session) (judging : Judging) (named : List ℕ)
+      → IsReadOn contents begun now lose (λ history. (bytes : List ℕ) × Consumes file left bytes × StandsFor recording bytes history × Q bytes history) session named → session.audit.judge.judging ≡ judging
+      → ((bytes : List ℕ) (frames : List Step) → Q bytes frames → lose ≡ false → BeginsAsClassic bytes) → IsReadInPart contents begun now file judging named
   stops_there begun now file left recording session judging named is same classic = record {
     history = is.0;
     carried = is.1;
@@ -186,7 +187,7 @@ module _ {W : Type 0} (contents : W → Option (List ℕ)) (lose : Bool) where
     read = inr (recording, is.4.read.0, left, is.4.read.1, is.4.read.2);
     came = is.4.session_is.noticed;
     may_lose = lose;
-    classic = λ none. (is.4.read.0, left, is.4.read.1, classic is.4.read.0 is.4.read.3 none);
+    classic = λ none. (is.4.read.0, left, is.4.read.1, classic is.4.read.0 is.0 is.4.read.3 none);
     has_told = told_so_far contents lose begun now judging named (so_far is.0 is.1 is.2) is.3
         (judged_as begun now session.audit.judge.judging judging named (so_far is.0 is.1 is.2) is.3 same is.4.has_told);
   }
@@ -197,10 +198,10 @@ module _ {W : Type 0} (contents : W → Option (List ℕ)) (lose : Bool) where
   part_told begun mid now judging named all ts so (inr step) = told_part contents lose begun mid now judging named all ts so.0 so.1 step
 
   -- what is over is told, and the last one in part
-  pub stops_telling : {Q : List ℕ → Type 0} (begun old new : Teller W) (yet : Bool) (file left : Option (List ℕ)) (recording : RecordingState) (before : Session) (judging : Judging) (named : List ℕ) (history : List Step) (carried : List Carried) (s : Noticed) (ts : List Telling)
-      → IsReadAndTold contents begun old lose (λ frames. (bytes : List ℕ) × Consumes file left bytes × StandsFor recording bytes frames × Q bytes) before named history carried s ts → before.audit.judge.judging ≡ judging → yet ≡ lose
+  pub stops_telling : {Q : List ℕ → List Step → Type 0} (begun old new : Teller W) (yet : Bool) (file left : Option (List ℕ)) (recording : RecordingState) (before : Session) (judging : Judging) (named : List ℕ) (history : List Step) (carried : List Carried) (s : Noticed) (ts : List Telling)
+      → IsReadAndTold contents begun old lose (λ frames. (bytes : List ℕ) × Consumes file left bytes × StandsFor recording bytes frames × Q bytes frames) before named history carried s ts → before.audit.judge.judging ≡ judging → yet ≡ lose
       → TellsTurnsPart contents (λ b. IsOldestOver b named carried s × JudgesAs before b) (record old { may_lose = yet }) new before.audit.judge.judging named (numbers_of ts) history carried s
-      → ((bytes : List ℕ) → Q bytes → lose ≡ false → BeginsAsClassic bytes) → IsReadInPart contents begun new file judging named
+      → ((bytes : List ℕ) (frames : List Step) → Q bytes frames → lose ≡ false → BeginsAsClassic bytes) → IsReadInPart contents begun new file judging named
   stops_telling begun old new yet file left recording before judging named history carried s ts is same calm turns classic =
       let here = before.audit.judge.judging in
       let more = told_in_turn contents (λ b. IsOldestOver b named carried s × JudgesAs before b) named history carried s
@@ -215,7 +216,7 @@ module _ {W : Type 0} (contents : W → Option (List ℕ)) (lose : Bool) where
         read = inr (recording, is.read.0, left, is.read.1, is.read.2);
         came = is.session_is.noticed;
         may_lose = lose;
-        classic = λ none. (is.read.0, left, is.read.1, classic is.read.0 is.read.3 none);
+        classic = λ none. (is.read.0, left, is.read.1, classic is.read.0 history is.read.3 none);
         has_told = subst (λ (k : Judging). HasToldPart contents begun new lose k named (so_far history carried s) more.0) same
             (part_told begun turns.mid new here named (so_far history carried s) more.0 more.1
             (subst (λ out. (new ≡ turns.mid) ⊎ TellsNextPart contents turns.mid new here named out carried) more.2 turns.part));

@@ -1,5 +1,5 @@
 -- What is written of a file's transfers, and what a fault leaves of it.
-use Rattle.std.proofs.Common.{◌≡◌, ◌++◌, ℕ, Bool, true, false, true≢false, List, Option, Result, Ok, Err, IsErr, IsErrAnd, inr, refl, sym, ap, subst, ◌∙◌}
+use Rattle.std.proofs.Common.{◌≡◌, ◌++◌, ℕ, Bool, true, false, true≢false, List, Option, Result, Ok, Err, IsErr, IsErrAnd, refl, sym, ap, subst, ◌∙◌}
 use Rattle.std.specs.Io.KnownBytes.{Appends}
 use Rattle.std.proofs.lemmas.Bool.{eq-eqb}
 use Rattle.net_streams.specs.Streams.{IsFresh, Sink, Wrote}
@@ -64,7 +64,7 @@ module _ {W E : Type 0} (contents : W → Option (List ℕ)) (errors : E → Opt
 
   -- what there is to tell is not told, or not all of it
   pub notes_stop : (fault : TellFault) → IsRemarkFault told.errors.1 fault → contents written.inner ≡ contents writer.inner → IsNoted errors remarks told of file SaysPart → IsTextStopped contents errors of remarks told writer written file number fault
-  notes_stop (TellFault.Alloc error) why same noted = (same, inr noted)
+  notes_stop (TellFault.Alloc error) why same noted = (same, noted)
   notes_stop (TellFault.Remark error) why same noted = (same, noted, why)
   notes_stop (TellFault.Read fault) why same noted = absurd why
   notes_stop (TellFault.Print fault) why same noted = absurd why

@@ -1,4 +1,4 @@
--- Why a file is not told, or not to its end, and what each such fault rests on. That memory was refused, or that a read failed, nothing shows.
+-- Why a file is not told, or not to its end, and what each such fault rests on. That memory was refused for a row, or that a read failed, nothing shows.
 use Rattle.std.specs.Prelude.{◌≡◌, ◌≤◌, ◌^◌, ◌-◌, ℕ, Bool, true, List, Option, Some}
 use Rattle.audit_recording.specs.Session.Opened.{HasFrames, IsReadFaultOf}
 use Rattle.tftp_rows.specs.declared.printing.PrintFault.{PrintFault}
@@ -23,10 +23,9 @@ IsRemarkFault unheard _ = ⊥
 abbrev pub HasManyFrames : Option (List ℕ) → Type 0
 HasManyFrames file = HasFrames file (2 ^ 64 - 1)
 
--- A recording's transfers are not told, or not all: memory was refused; it is not read, for a reason that it gives; a row is not printed; so many were told as 64 bits
+-- A recording's transfers are not told, or not all: it is not read, or not to its end, for a reason that it gives; a row is not printed; so many were told as 64 bits
 -- count; or it has as many frames.
 abbrev pub IsTellFault : Option (List ℕ) → Bool → ℕ → TellFault → Type 0
-IsTellFault file failed told (TellFault.Alloc error) = Unit {0}
 IsTellFault file failed told (TellFault.Read fault) = IsReadFaultOf file fault
 IsTellFault file failed told (TellFault.Print fault) = IsPrintFault failed fault
 IsTellFault file failed told TellFault.TooMany = 2 ^ 64 - 1 ≤ told

@@ -1,6 +1,6 @@
 -- What is written of a file: the capture text of one of its transfers, or of each. Lists of what a recording has, and of what came of its
 -- transfers, have the newest first.
-use Rattle.std.specs.Prelude.{◌≡◌, ◌⊎◌, ◌+◌, ◌++◌, ◌∷◌, ℕ, Bool, true, false, List, [], Option, Some, None, Result, Ok, Err, length}
+use Rattle.std.specs.Prelude.{◌≡◌, ◌+◌, ◌++◌, ◌∷◌, ℕ, Bool, true, false, List, [], Option, Some, None, Result, Ok, Err, length}
 use Rattle.std.specs.Io.KnownBytes.{Appends}
 use Rattle.net_streams.specs.Streams.{IsFresh, Sink}
 use Rattle.net_udp.specs.Recording.{RecordingState, Step}
@@ -115,7 +115,7 @@ module _ {W E : Type 0} (contents : W → Option (List ℕ)) (errors : E → Opt
 
     -- What a fault leaves of it. Nothing was written, unless it is that which has failed.
     abbrev pub IsTextStopped : TellFault → Type 0
-    IsTextStopped (TellFault.Alloc error) = IsUnwritten contents writer wrote × (IsSilent errors remarks told ⊎ IsNoted errors remarks told of file SaysPart)
+    IsTextStopped (TellFault.Alloc error) = IsUnwritten contents writer wrote × IsNoted errors remarks told of file SaysPart
     IsTextStopped (TellFault.Read fault) = IsUnwritten contents writer wrote × IsSilent errors remarks told × IsReadFaultOf file fault
     IsTextStopped (TellFault.Remark error) = IsUnwritten contents writer wrote × IsNoted errors remarks told of file SaysPart × (told.errors.1 ≡ true)
     IsTextStopped (TellFault.Text fault) =
@@ -189,7 +189,6 @@ module _ {W E : Type 0} (contents : W → Option (List ℕ)) (errors : E → Opt
     AreStoppedAfter fault = (notes : Notes) × (read : IsRecordingRead file of.services.now notes) × AreSomeWritten notes read.carried (noticed_by read) (lines_of read) fault
 
     abbrev pub AreTextsStopped : TellFault → Type 0
-    AreTextsStopped (TellFault.Alloc error) = (IsUnwritten contents writer wrote × IsSilent errors remarks told) ⊎ AreStoppedAfter (TellFault.Alloc error)
     AreTextsStopped (TellFault.Read fault) = IsUnwritten contents writer wrote × IsSilent errors remarks told × IsReadFaultOf file fault
     AreTextsStopped fault = AreStoppedAfter fault
 

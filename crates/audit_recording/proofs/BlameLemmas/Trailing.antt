@@ -194,7 +194,7 @@ record IsTold (t : Trail) (x : Transfer) (view : List Framed) : Type 0 where
   pub last_time : t.last_time ≡ last_time_in view
   pub is_answered : t.is_answered ≡ list_any (comes_to x) view
 
-one_counted : (k n m most : ℕ) → k ≡ min n most → m ≡ min (k + 1) most → m ≡ min (suc n) most
+pub one_counted : (k n m most : ℕ) → k ≡ min n most → m ≡ min (k + 1) most → m ≡ min (suc n) most
 one_counted k n m most was is = omega (arith, was, is)
 
 told_own : (old mid : Trail) (x : Transfer) (f : Framed) (passing : Passing) (view : List Framed) → old.transfer ≡ x → IsPassing passing f.carried → f.placed.datagram ≡ f.carried.datagram

@@ -8,6 +8,7 @@ use Rattle.audit_recording.specs.Blame.Frames.{Carried}
 use Rattle.audit_recording.specs.Session.Kept.{IsSessionAfter, ReadsOn}
 use Rattle.audit_recording.specs.Session.Noted.{Noticed, nothing_noticed}
 use Rattle.audit_recording.specs.Session.Opened.{HasEnded, HasMany, IsReadOn, IsReadWhole, IsSessionClosed}
+use Rattle.audit_recording.specs.declared.session.fault.ReadFault.{ReadFault}
 use Rattle.audit_recording.specs.declared.session.notes.Notes.{Notes}
 use Rattle.audit_recording.specs.declared.session.session.Session.{Session}
 use Rattle.audit_recording.proofs.AuditLemmas.Counted.{at_least}
@@ -21,7 +22,7 @@ module _ (Before After : List Step → Type 0) (old new : Session) (named : List
   Stand frames datagrams noticed = After frames × IsSessionAfter new named [] frames datagrams noticed
 
   -- no frame more
-  pub none_on : (goes : Bool) → goes ≡ false → ReadsOn Stand so.history so.carried so.noticed (Ok goes) → IsReadOn After new named
+  pub none_on : (goes : Bool) → goes ≡ false → ReadsOn {F = ReadFault} Stand so.history so.carried so.noticed (Ok goes) → IsReadOn After new named
   none_on false e came = record { history = so.history; carried = so.carried; noticed = so.noticed; read = came.0; is = came.1 }
   none_on true e came = absurd (false≢true (sym e))
 
@@ -34,13 +35,13 @@ module _ (Before After : List Step → Type 0) (old new : Session) (named : List
   longer step history le = grind arith
 
   pub frame_on_for : (so : IsReadOnFor n Before old named) (goes : Bool) → goes ≡ true
-      → ReadsOn (λ frames datagrams noticed. After frames × IsSessionAfter new named [] frames datagrams noticed) so.0.history so.0.carried so.0.noticed (Ok goes) → IsReadOnFor (n + 1) After new named
+      → ReadsOn {F = ReadFault} (λ frames datagrams noticed. After frames × IsSessionAfter new named [] frames datagrams noticed) so.0.history so.0.carried so.0.noticed (Ok goes) → IsReadOnFor (n + 1) After new named
   frame_on_for so true e came = (record { history = came.0 ∷ so.0.history; carried = came.1; noticed = came.2; read = came.4.0; is = came.4.1 }, longer came.0 so.0.history so.1)
   frame_on_for so false e came = absurd (false≢true e)
 
 -- the file has as many frames as were read
-pub many_read : {Q : List ℕ → Type 0} (file left : Option (List ℕ)) (recording : RecordingState) (session : Session) (named : List ℕ) (n : ℕ)
-    → IsReadOnFor n (λ history. (bytes : List ℕ) × Consumes file left bytes × StandsFor recording bytes history × Q bytes) session named → 2 ^ 64 - 1 ≤ n → HasMany file
+pub many_read : {Q : List ℕ → List Step → Type 0} (file left : Option (List ℕ)) (recording : RecordingState) (session : Session) (named : List ℕ) (n : ℕ)
+    → IsReadOnFor n (λ history. (bytes : List ℕ) × Consumes file left bytes × StandsFor recording bytes history × Q bytes history) session named → 2 ^ 64 - 1 ≤ n → HasMany file
 many_read file left recording session named n so all =
     (so.0.history, (recording, so.0.read.0, left, so.0.read.1, so.0.read.2), at_least (2 ^ 40) n (length so.0.history) (omega (arith, all)) so.1)
 
@@ -49,8 +50,8 @@ ended_too recording before after same (inl over) = inl over
 ended_too recording before after same (inr failed) = inr (failed.0, failed.1, same ∙ failed.2)
 
 -- and it is closed
-pub closed_reading : {Q : List ℕ → Type 0} (file left : Option (List ℕ)) (recording : RecordingState) (old new : Session) (named : List ℕ)
-    → IsReadOn (λ history. (bytes : List ℕ) × Consumes file left bytes × StandsFor recording bytes history × Q bytes) old named
+pub closed_reading : {Q : List ℕ → List Step → Type 0} (file left : Option (List ℕ)) (recording : RecordingState) (old new : Session) (named : List ℕ)
+    → IsReadOn (λ history. (bytes : List ℕ) × Consumes file left bytes × StandsFor recording bytes history × Q bytes history) old named
     → (standing_of recording ≡ Standing.Over → IsAtEnd left) → HasEnded recording old.notes → new.notes.fault ≡ old.notes.fault
     → ((history : List Step) (carried : List Carried) (s : Noticed) → IsSessionAfter old named [] history carried s → IsSessionClosed new recording named [] history carried s)
     → IsReadWhole file new named

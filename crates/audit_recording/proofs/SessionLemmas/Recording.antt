@@ -14,14 +14,13 @@ use Rattle.net_udp.specs.{Fate}
 use Rattle.net_udp.proofs.RecordingLemmas.OneFate.{IsSameIf, fate_of_one}
 use Rattle.audit_flows.specs.Lines.{Recorded}
 use Rattle.audit_flows.specs.declared.lines.place.Place.TheVariants.{Opens, Repeats, Talks, Apart, Beside, Nowhere}
-use Rattle.audit_flows.specs.{Place}
+use Rattle.audit_flows.specs.{AttributionFault, Place}
 use Rattle.audit_recording.specs.Audit.{IsOfEvent, IsTaken}
 use Rattle.audit_recording.specs.Audit.Passed.{Adds, HasPassed, IsRequest, end_of, time_by}
 use Rattle.audit_recording.specs.Blame.Frames.{Carried, datagrams_of, framed_after}
 use Rattle.audit_recording.specs.Losses.Noted.Event.{Waits as Awaits}
 use Rattle.audit_recording.specs.Reasons.Clock.{HaveReached, IsClockAfter}
 use Rattle.audit_recording.specs.Session.Kept.{GivesNone, IsOneMore, ReadsOn}
-use Rattle.audit_recording.specs.declared.session.fault.ReadFault.{ReadFault}
 use Rattle.audit_recording.specs.Session.Noted.{AreHostsOf, IsHeaderOf, AreNotesOf, Noticed, finding, is_none, leaving, losing, may_be_datagram, noting, sharers_of, unread_in}
 use Rattle.audit_recording.specs.Session.Recording.{AddsOne, BeginsToWait, IsCarriedBy, IsNoticedOf, Leaves, letting_go, placing, reached_by}
 use Rattle.audit_recording.specs.declared.session.clock.Clock.{Clock}
@@ -248,19 +247,19 @@ noticed_passed named (step ∷ before) all t (older, s, event, fate, was, of, ca
 
 -- ---- what stands after a frame
 
-pub reads_on : (Stand : List Step → List Carried → Noticed → Type 0) (Is Are : Noticed → Type 0) (history : List Step) (carried : List Carried) (s : Noticed) (step : Step) (all : List Carried) (r : Result Bool ReadFault)
+pub reads_on : (Stand : List Step → List Carried → Noticed → Type 0) (Is Are : Noticed → Type 0) (history : List Step) (carried : List Carried) (s : Noticed) (step : Step) (all : List Carried) (r : Result Bool AttributionFault)
     → r ≢ Ok false → IsOneMore carried all → OnOk r ((t : Noticed) × Is t × Are t) → ((t : Noticed) → Is t → Are t → Stand (step ∷ history) all t) → ReadsOn Stand history carried s r
 reads_on Stand Is Are history carried s step all (Ok true) goes one told on = (step, all, told.0, one, on told.0 told.1 told.2)
 reads_on Stand Is Are history carried s step all (Ok false) goes one told on = absurd (goes refl)
 reads_on Stand Is Are history carried s step all (Err fault) goes one told on = tt
 
-pub stops_so : (Stand : List Step → List Carried → Noticed → Type 0) (history : List Step) (carried : List Carried) (s : Noticed) (r : Result Bool ReadFault)
+pub stops_so : (Stand : List Step → List Carried → Noticed → Type 0) (history : List Step) (carried : List Carried) (s : Noticed) (r : Result Bool AttributionFault)
     → r ≢ Ok true → OnOk r (Stand history carried s) → ReadsOn Stand history carried s r
 stops_so Stand history carried s (Ok true) over told = absurd (over refl)
 stops_so Stand history carried s (Ok false) over told = told
 stops_so Stand history carried s (Err fault) over told = tt
 
-pub errs_so : (Stand : List Step → List Carried → Noticed → Type 0) (history : List Step) (carried : List Carried) (s : Noticed) (r : Result Bool ReadFault)
+pub errs_so : (Stand : List Step → List Carried → Noticed → Type 0) (history : List Step) (carried : List Carried) (s : Noticed) (r : Result Bool AttributionFault)
     → IsErr r → ReadsOn Stand history carried s r
 errs_so Stand history carried s (Ok goes) is = absurd (false≢true is)
 errs_so Stand history carried s (Err fault) is = tt

@@ -1,15 +1,16 @@
 -- Which of the options that tell how blocks are sent the datagrams of a transfer name. Lists have the newest first.
-use Rattle.std.specs.Prelude.{ℕ, ◌==◌, ◌&&◌, ◌||◌, Bool, List, codes}
+use Rattle.std.specs.Prelude.{ℕ, ◌==◌, ◌&&◌, ◌||◌, not, Bool, List, codes}
 use Rattle.std.specs.List.{list_any, slice_split}
 use Rattle.std.specs.Str.{str_eq_ignore_ascii_case}
+use Rattle.tftp_packet.specs.{opcode_of}
 use Rattle.audit_flows.specs.Lines.{Placed}
 use Rattle.audit_flows.specs.{Transfer}
 use Rattle.audit_flows.specs.Transfers.{is_about}
 use Rattle.audit_recording.specs.declared.blame.named.Named.{Named}
 
--- one of its strings is this name, in letters of any case (RFC 2347)
+-- It is no block, and one of its strings is this name, in letters of any case (RFC 2347).
 abbrev pub names_option : List ℕ → List ℕ → Bool
-names_option name payload = list_any (λ word. str_eq_ignore_ascii_case word name) (slice_split (λ b. b == 0) payload)
+names_option name payload = not (opcode_of payload == 3) && list_any (λ word. str_eq_ignore_ascii_case word name) (slice_split (λ b. b == 0) payload)
 
 abbrev pub with_named : List ℕ → Named → Named
 with_named payload named = record {

@@ -11,7 +11,6 @@ use Rattle.audit_recording.specs.Session.Noted.{AreNotesOf, Noticed}
 use Rattle.audit_recording.specs.Session.Recording.{IsNoticedOf}
 use Rattle.audit_recording.specs.Session.Texts.{AreTextsKept}
 use Rattle.audit_recording.specs.Session.Trails.{AreTrailsKept}
-use Rattle.audit_recording.specs.declared.session.fault.ReadFault.{ReadFault}
 use Rattle.audit_recording.specs.declared.session.session.Session.{Session}
 
 -- It is the session of these datagrams, which came by these frames, whatever was noticed: the judges were given the datagrams, the notes are of
@@ -65,7 +64,7 @@ AreJudgesLeft audit named out carried =
     (audit.judge.failed ≡ true) ⊎ ((history : List Step) × (all : List Carried) × IsOneMore carried all × AuditsAfter audit named out history (datagrams_of all))
 
 -- What stands after the next frame, by whether the recording goes on. A fault leaves nothing.
-abbrev pub ReadsOn : (List Step → List Carried → Noticed → Type 0) → List Step → List Carried → Noticed → Result Bool ReadFault → Type 0
+abbrev pub ReadsOn : {F : Type 0} → (List Step → List Carried → Noticed → Type 0) → List Step → List Carried → Noticed → Result Bool F → Type 0
 ReadsOn Stand history carried s (Ok true) = (step : Step) × (all : List Carried) × (t : Noticed) × IsOneMore carried all × Stand (step ∷ history) all t
 ReadsOn Stand history carried s (Ok false) = Stand history carried s
 ReadsOn Stand history carried s (Err fault) = Unit {0}

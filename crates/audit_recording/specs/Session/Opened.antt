@@ -1,9 +1,10 @@
 -- A recording that is read frame by frame. Lists have the newest first.
-use Rattle.std.specs.Prelude.{◌≡◌, ◌≤◌, ◌^◌, ◌⊎◌, [], ℕ, Bool, false, List, Option, Some, length}
+use Rattle.std.specs.Prelude.{◌≡◌, ◌+◌, ◌-◌, ◌≤◌, ◌^◌, ◌⊎◌, [], min, ℕ, Bool, false, true, List, Option, Some, Result, Ok, Err, length}
 use Rattle.std.specs.Io.KnownBytes.{Consumes, IsAtEnd, prepend_known}
 use Rattle.net_pcap.specs.{BeginsAsClassic, FailsToBegin, FaultKind, PcapFault, lost_of}
 use Rattle.net_streams.specs.{Standing}
 use Rattle.net_udp.specs.Recording.{RecordingState, StandsFor, Step, standing_of}
+use Rattle.audit_flows.specs.{AttributionFault}
 use Rattle.audit_recording.specs.Blame.Frames.{Carried}
 use Rattle.audit_recording.specs.Session.Kept.{IsSessionAfter, IsSessionOf}
 use Rattle.audit_recording.specs.Session.Noted.{Noticed, frames_in, giving_up}
@@ -13,20 +14,35 @@ use Rattle.audit_recording.specs.declared.session.notes.Notes.{Notes}
 use Rattle.audit_recording.specs.declared.session.opened.Opened.{Opened}
 use Rattle.audit_recording.specs.declared.session.session.Session.{Session}
 
+-- so many, as far as 64 bits count
+abbrev pub counted_as : ℕ → ℕ
+counted_as count = min count (2 ^ 64 - 1)
+
 -- whether it may tell later that its recorder lost packets
 abbrev pub may_lose_in : {R : Type 0} → Opened R → Bool
 may_lose_in opened = opened.may_lose
+
+-- Of these bytes and frames it has counted these. Where it can't tell later that packets were lost it is a classic recording, which tells of
+-- none.
+abbrev pub IsKnownOf : {R : Type 0} → Opened R → List ℕ → List Step → Type 0
+IsKnownOf opened bytes history = (may_lose_in opened ≡ false → BeginsAsClassic bytes) × (opened.frames ≡ counted_as (length history))
 
 module _ {R : Type 0} (remaining : R → Option (List ℕ)) where
   -- what is left of the file: what was read ahead, and what its reader has left
   abbrev pub left_of : Opened R → Option (List ℕ)
   left_of opened = prepend_known opened.recording.frames.pieces.ahead (remaining opened.reader.0.inner)
 
-  -- The file had these bytes and what is left, and these are their frames. Where it can't tell later that packets were lost it is a classic
-  -- recording, which tells of none.
+  -- The file had these bytes and what is left, and these are their frames.
   abbrev pub HasRead : Option (List ℕ) → Opened R → List Step → Type 0
   HasRead file opened history =
-      (bytes : List ℕ) × Consumes file (left_of opened) bytes × StandsFor opened.recording bytes history × (may_lose_in opened ≡ false → BeginsAsClassic bytes)
+      (bytes : List ℕ) × Consumes file (left_of opened) bytes × StandsFor opened.recording bytes history × IsKnownOf opened bytes history
+
+-- What the next frame does to their count, and what is answered: whether the recording goes on, or why not. Memory was refused behind so many.
+abbrev pub IsCounted : ℕ → ℕ → Result Bool AttributionFault → Result Bool ReadFault → Type 0
+IsCounted before after (Ok true) result = (after ≡ counted_as (before + 1)) × (result ≡ Ok true)
+IsCounted before after (Ok false) result = (after ≡ before) × (result ≡ Ok false)
+IsCounted before after (Err AttributionFault.Memory) result = (after ≡ before) × (result ≡ Err (ReadFault.Memory before))
+IsCounted before after (Err AttributionFault.TooMany) result = (after ≡ before) × (result ≡ Err ReadFault.TooMany)
 
 -- it was read to its end, or to a fault, which is noted
 abbrev pub HasEnded : RecordingState → Notes → Type 0
@@ -64,19 +80,12 @@ abbrev pub HasMany : Option (List ℕ) → Type 0
 HasMany file = HasFrames file (2 ^ 40)
 
 -- That a file is no recording, or none that is read here, is said only where it fails to begin so; that there are too many datagrams, only
--- where so many frames were read. That memory was refused nothing shows.
+-- where so many frames were read; and that memory was refused, before its first frame or behind one that it has.
 abbrev pub IsReadFaultOf : Option (List ℕ) → ReadFault → Type 0
 IsReadFaultOf file (ReadFault.NoRecording words) = BeginsNot file FaultKind.NotARecording
 IsReadFaultOf file (ReadFault.Format kind) = BeginsNot file kind
-IsReadFaultOf file ReadFault.Memory = Unit {0}
+IsReadFaultOf file (ReadFault.Memory frame) = (frame ≡ 0) ⊎ HasFrames file frame
 IsReadFaultOf file ReadFault.TooMany = HasMany file
-IsReadFaultOf file (ReadFault.Alloc error) = Unit {0}
-
--- memory was refused
-abbrev pub IsMemoryFault : ReadFault → Type 0
-IsMemoryFault ReadFault.Memory = Unit {0}
-IsMemoryFault (ReadFault.Alloc error) = Unit {0}
-IsMemoryFault _ = ⊥
 
 -- ---- one that is read whole
 

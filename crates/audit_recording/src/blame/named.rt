@@ -3,6 +3,11 @@
 ghost use Rattle.std.specs.Prelude.{◌≡◌, codes, false};
 ghost use Rattle.audit_recording.specs.Blame.Named.{names_option, with_named};
 
+use tftp_packet::opcode;
+
+/// The opcode of a block, in which nothing is named (RFC 1350, section 5).
+const BLOCK: u16 = 3;
+
 /// The options that tell how blocks are sent, as far as some datagram names them.
 #[derive(Clone, Copy)]
 pub struct Named {
@@ -38,16 +43,18 @@ impl Named {
 fn names_windows(payload: &[u8]) -> bool
     ensures { result ≡ names_option (codes "windowsize") payload.now }
 {
-    payload
-        .split(|byte| *byte == 0)
-        .any(|word| word.eq_ignore_ascii_case(b"windowsize"))
+    opcode(payload) != BLOCK
+        && payload
+            .split(|byte| *byte == 0)
+            .any(|word| word.eq_ignore_ascii_case(b"windowsize"))
 }
 
 /// Whether one of its strings is the name of the option of block sizes, in letters of any case.
 fn names_sizes(payload: &[u8]) -> bool
     ensures { result ≡ names_option (codes "blksize") payload.now }
 {
-    payload
-        .split(|byte| *byte == 0)
-        .any(|word| word.eq_ignore_ascii_case(b"blksize"))
+    opcode(payload) != BLOCK
+        && payload
+            .split(|byte| *byte == 0)
+            .any(|word| word.eq_ignore_ascii_case(b"blksize"))
 }

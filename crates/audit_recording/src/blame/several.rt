@@ -42,6 +42,9 @@ fn may_be_several(payload: &[u8]) -> bool
 fn are_among(some: &[u8], bytes: &[u8]) -> bool
     ensures { result ≡ are_among some.now bytes.now }
 {
+    if bytes.len() < some.len() {
+        return false;
+    }
     memmem::find(bytes, some).is_some()
 }
 

@@ -14,26 +14,12 @@ pub enum ReadFault {
     /// It does not begin as a recording that is read here.
     #[error("{0}")]
     Format(FaultKind),
-    /// Memory was refused.
-    #[error("out of memory")]
-    Memory,
+    /// Memory was refused: so many of its frames were read, and what they brought was taken.
+    #[error("out of memory after frame {0}")]
+    Memory(u64),
     /// It has more datagrams than can be counted.
     #[error("too many datagrams")]
     TooMany,
-    /// Memory was refused for what is kept of it.
-    #[error(transparent)]
-    Alloc(AllocError),
-}
-
-impl From<AllocError> for ReadFault {
-    ghost use Rattle.std.specs.Prelude.{◌≡◌};
-    ghost use Rattle.audit_recording.specs.declared.session.fault.ReadFault.{ReadFault};
-
-    ghost from_gives = { λ error fault. fault ≡ ReadFault.Alloc error };
-
-    fn from(error: AllocError) -> Self {
-        ReadFault::Alloc(error)
-    }
 }
 
 /// Why there is no text of a transfer.

@@ -1,6 +1,6 @@
 //! Recordings are read.
 
-ghost use Rattle.std.specs.Prelude.{◌≡◌, ◌≢◌, [], ℕ, List, Err, IfErr, IfOk, OnOk, Ok, Option, false, true};
+ghost use Rattle.std.specs.Prelude.{◌≡◌, [], ℕ, List, IfErr, IfOk, OnErr, OnOk, Ok, Option, false, true};
 ghost use Rattle.std.specs.Io.KnownBytes.{IsAtEnd};
 ghost use Rattle.net_pcap.specs.{FailsToBegin, may_lose};
 ghost use Rattle.net_streams.specs.{Standing};
@@ -8,16 +8,16 @@ ghost use Rattle.net_udp.specs.Recording.{Step, standing_of};
 ghost use Rattle.audit_recording.specs.Blame.Frames.{Carried};
 ghost use Rattle.audit_recording.specs.Session.Kept.{IsSessionAfter, ReadsOn};
 ghost use Rattle.audit_recording.specs.Session.Noted.{Noticed, nothing_noticed};
-ghost use Rattle.audit_recording.specs.Session.Opened.{HasEnded, HasMany, HasRead, IsMemoryFault, IsReadFaultOf, IsReadOn, IsReadWhole, IsSessionClosed, left_of, may_lose_in};
-ghost use Rattle.audit_recording.specs.declared.session.fault.ReadFault.{ReadFault};
+ghost use Rattle.audit_recording.specs.Session.Opened.{HasEnded, HasRead, IsCounted, IsReadFaultOf, IsReadOn, IsReadWhole, IsSessionClosed, left_of, may_lose_in};
 
 use crate::session::fault::ReadFault;
 use crate::session::headed::{Headed, hint};
 use crate::session::session::Session;
+use audit_flows::transfers::AttributionFault;
 use net_pcap::{FaultKind, PcapFault};
 use net_streams::streams::Latched;
 use net_udp::recording::{Event, RecordingReader};
-use std::alloc::{AllocError, Global};
+use std::alloc::Global;
 use std::io::Read;
 
 /// A recording that is being read.
@@ -26,6 +26,8 @@ pub struct Opened<R: Read + Drop> {
     reader: Latched<Headed<R>>,
     recording: RecordingReader,
     event: Event,
+    /// How many of its frames were read.
+    frames: u64,
     /// Whether it may tell later on that its recorder lost packets.
     may_lose: bool,
 }
@@ -45,6 +47,7 @@ impl<R: Read + Drop> Opened<R> {
                 reader,
                 recording,
                 event: Event::empty(alloc),
+                frames: 0,
             }),
             Err(fault) => Err(refused(&fault, reader.into_inner())),
         }
@@ -65,10 +68,9 @@ impl<R: Read + Drop> Opened<R> {
         ensures wanted { session.new.kept.wanted ≡ session.old.kept.wanted }
         ensures stays { may_lose_in self.new ≡ may_lose_in self.old }
         ensures may_lose { session.new.notes.may_lose ≡ may_lose_in self.new }
-        ensures why { result ≢ Err ReadFault.TooMany → IfErr result IsMemoryFault }
-        ensures many { (named out : List ℕ) (history : List Step) (carried : List Carried) (s : Noticed)
+        ensures why { (named out : List ℕ) (history : List Step) (carried : List Carried) (s : Noticed)
             → (file : Option (List ℕ)) → HasRead R.remaining file self.old history → IsSessionAfter session.old named out history carried s
-            → result ≡ Err ReadFault.TooMany → HasMany file }
+            → IfErr result (IsReadFaultOf file) }
     {
         let goes_on = session.next(
             alloc,
@@ -77,23 +79,42 @@ impl<R: Read + Drop> Opened<R> {
             &mut self.event,
         );
         session.notes.may_lose = self.may_lose;
-        goes_on
+        count(&mut self.frames, goes_on)
     }
 
     /// Reads no further: the fragments that still wait belong to nothing, and the recorder has told how many packets it lost.
-    pub fn close(self, alloc: Global, session: &mut Session) -> Result<(), AllocError>
+    pub fn close(self, alloc: Global, session: &mut Session) -> Result<(), ReadFault>
         ensures closed { (named out : List ℕ) (history : List Step) (carried : List Carried) (s : Noticed)
             → IsSessionAfter session.old named out history carried s
             → OnOk result (IsSessionClosed session.new self.recording named out history carried s) }
         ensures judging { session.new.audit.judge.judging ≡ session.old.audit.judge.judging }
         ensures fault { session.new.notes.fault ≡ session.old.notes.fault }
         ensures kept { session.new.kept ≡ session.old.kept }
+        ensures why { (file : Option (List ℕ)) (history : List Step) → HasRead R.remaining file self history → IfErr result (IsReadFaultOf file) }
     {
-        let dropped = self.recording.lost();
+        let (dropped, frames) = (self.recording.lost(), self.frames);
         let closed = session.notes.lose_all(alloc, self.recording.into_waiting());
         session.notes.may_lose = false;
         session.notes.dropped = dropped;
-        closed
+        match closed {
+            Ok(()) => Ok(()),
+            Err(_) => Err(ReadFault::Memory(frames)),
+        }
+    }
+}
+
+/// Counts the frame that was read, if there was one.
+fn count(frames: &mut u64, goes_on: Result<bool, AttributionFault>) -> Result<bool, ReadFault>
+    ensures { IsCounted frames.old frames.new goes_on result }
+{
+    match goes_on {
+        Ok(true) => {
+            *frames = frames.saturating_add(1);
+            Ok(true)
+        }
+        Ok(false) => Ok(false),
+        Err(AttributionFault::Memory) => Err(ReadFault::Memory(*frames)),
+        Err(AttributionFault::TooMany) => Err(ReadFault::TooMany),
     }
 }
 
@@ -103,6 +124,7 @@ fn refused<R: Drop>(fault: &PcapFault, file: Headed<R>) -> ReadFault
 {
     match fault.kind {
         FaultKind::NotARecording => ReadFault::NoRecording(hint(file.head())),
+        FaultKind::Memory => ReadFault::Memory(0),
         kind => ReadFault::Format(kind),
     }
 }
@@ -114,8 +136,7 @@ pub fn read_whole<R: Read + Drop>(
     session: &mut Session,
 ) -> Result<(), ReadFault>
     ensures read { (named : List ℕ) → IsSessionAfter session.old named [] [] [] nothing_noticed → OnOk result (IsReadWhole (R.Read.remaining reader) session.new named) }
-    ensures why { result ≢ Err ReadFault.TooMany → IfErr result (IsReadFaultOf (R.Read.remaining reader)) }
-    ensures many { (named : List ℕ) → IsSessionAfter session.old named [] [] [] nothing_noticed → result ≡ Err ReadFault.TooMany → HasMany (R.Read.remaining reader) }
+    ensures why { (named : List ℕ) → IsSessionAfter session.old named [] [] [] nothing_noticed → IfErr result (IsReadFaultOf (R.Read.remaining reader)) }
     ensures wanted { session.new.kept.wanted ≡ session.old.kept.wanted }
 {
     let mut opened = Opened::begin(alloc, reader)?;
@@ -134,9 +155,8 @@ fn read_frames<R: Read + Drop>(
 ) -> Result<(), ReadFault>
     ensures read { (file : Option (List ℕ)) (named : List ℕ) → IsReadOn (HasRead R.Read.remaining file opened.old) session.old named
         → OnOk result (IsReadOn (HasRead R.Read.remaining file opened.new) session.new named) }
-    ensures why { result ≢ Err ReadFault.TooMany → IfErr result IsMemoryFault }
-    ensures many { (file : Option (List ℕ)) (named : List ℕ) → IsReadOn (HasRead R.Read.remaining file opened.old) session.old named
-        → result ≡ Err ReadFault.TooMany → HasMany file }
+    ensures why { (file : Option (List ℕ)) (named : List ℕ) → IsReadOn (HasRead R.Read.remaining file opened.old) session.old named
+        → IfErr result (IsReadFaultOf file) }
     ensures ends { OnOk result (HasEnded opened.new.recording session.new.notes) }
     ensures at_end { standing_of opened.old.recording ≡ Standing.Open
         → OnOk result (standing_of opened.new.recording ≡ Standing.Over → IsAtEnd (left_of R.Read.remaining opened.new)) }

@@ -26,12 +26,11 @@ ghost use Rattle.audit_recording.specs.Session.Recording.{AddsOne, IsCarriedBy, 
 ghost use Rattle.audit_recording.specs.Session.Beside.{AreMarksKept, IsMarkedBy, Mark, gone_of};
 ghost use Rattle.audit_recording.specs.Session.Heard.{IsUndeliveredOf};
 ghost use Rattle.audit_recording.specs.Session.Kept.{AddsFrame, AreJudgesLeft, GivesNone, IsReadAfter, IsSessionAfter, IsSessionOf, ReadsOn};
-ghost use Rattle.audit_recording.specs.Session.Opened.{IsMemoryFault};
+ghost use Rattle.audit_recording.specs.Session.Opened.{IsReadFaultOf};
 ghost use Rattle.audit_recording.specs.Session.Over.{IsOldestOver};
 ghost use Rattle.audit_recording.specs.Session.Strays.{stray_of};
 ghost use Rattle.audit_recording.specs.Session.Texts.{AreTextsKept, IsNoneNumbered, opened_numbers, ordinal};
 ghost use Rattle.audit_recording.specs.Session.Trails.{AreTrailsBegun, AreTrailsKept, IsTrailAfter};
-ghost use Rattle.audit_recording.specs.declared.session.fault.ReadFault.{ReadFault};
 
 use crate::audit::{AuditFault, NextFrame, RecordingAudit};
 use crate::blame::several::is_joined;
@@ -94,14 +93,18 @@ impl Session {
         services: &[u16],
         judging: Judging,
         kept: Kept,
-    ) -> Result<Self, AllocError>
+    ) -> Result<Self, ReadFault>
         ensures stands { IfOk result (λ s. IsSessionAfter s services.now [] [] [] nothing_noticed) }
         ensures judging { IfOk result (λ s. s.audit.judge.judging ≡ judging) }
         ensures fault { IfOk result (λ s. s.notes.fault ≡ None) }
         ensures wanted { IfOk result (λ s. s.kept.wanted ≡ kept.wanted) }
+        ensures why { (file : Option (List ℕ)) → IfErr result (IsReadFaultOf file) }
     {
+        let Ok(audit) = RecordingAudit::new(alloc, services, judging) else {
+            return Err(ReadFault::Memory(0));
+        };
         Ok(Session {
-            audit: RecordingAudit::new(alloc, services, judging)?,
+            audit,
             trails: BTreeMap::new(alloc),
             unplaced: Unplaced::new(alloc),
             unreached: Unreached::new(alloc),
@@ -124,7 +127,7 @@ impl Session {
         reader: &mut Latched<R>,
         recording: &mut RecordingReader,
         event: &mut Event,
-    ) -> Result<bool, ReadFault>
+    ) -> Result<bool, AttributionFault>
         ensures goes_on { (named out bytes : List ℕ) (history : List Step) (carried : List Carried) (s : Noticed)
             → StandsFor recording.old bytes history → IsSessionAfter self.old named out history carried s
             → (taken : List ℕ)
@@ -143,9 +146,8 @@ impl Session {
         ensures fault { result ≡ Ok true → self.new.notes.fault ≡ self.old.notes.fault }
         ensures judging { self.new.audit.judge.judging ≡ self.old.audit.judge.judging }
         ensures wanted { self.new.kept.wanted ≡ self.old.kept.wanted }
-        ensures why { result ≢ Err ReadFault.TooMany → IfErr result IsMemoryFault }
         ensures many { (named out : List ℕ) (history : List Step) (carried : List Carried) (s : Noticed) → IsSessionAfter self.old named out history carried s
-            → result ≡ Err ReadFault.TooMany → 2 ^ 40 ≤ length history }
+            → result ≡ Err AttributionFault.TooMany → 2 ^ 40 ≤ length history }
     {
         let goes_on = self.read(alloc, reader, recording, event)?;
         if goes_on {
@@ -161,7 +163,7 @@ impl Session {
         reader: &mut Latched<R>,
         recording: &mut RecordingReader,
         event: &mut Event,
-    ) -> Result<bool, ReadFault>
+    ) -> Result<bool, AttributionFault>
         ensures goes_on { (named out bytes : List ℕ) (history : List Step) (carried : List Carried) (s : Noticed)
             → StandsFor recording.old bytes history → IsReadAfter self.old named out history carried s
             → (taken : List ℕ)
@@ -181,21 +183,20 @@ impl Session {
         ensures fault { result ≡ Ok true → self.new.notes.fault ≡ self.old.notes.fault }
         ensures judging { self.new.audit.judge.judging ≡ self.old.audit.judge.judging }
         ensures wanted { self.new.kept.wanted ≡ self.old.kept.wanted }
-        ensures why { result ≢ Err ReadFault.TooMany → IfErr result IsMemoryFault }
         ensures many { (named out : List ℕ) (history : List Step) (carried : List Carried) (s : Noticed) → IsReadAfter self.old named out history carried s
-            → result ≡ Err ReadFault.TooMany → 2 ^ 40 ≤ length history }
+            → result ≡ Err AttributionFault.TooMany → 2 ^ 40 ≤ length history }
     {
         match self.audit.next_into(alloc, reader, recording, event) {
             Ok(NextFrame::End) => Ok(false),
             Ok(NextFrame::Nothing) => self.take(alloc, event, None),
             Ok(NextFrame::Datagram(found)) => self.take(alloc, event, Some(found)),
             Err(AuditFault::Recording(fault)) => self.stop(fault),
-            Err(AuditFault::Judges(fault)) => refuse(fault),
+            Err(AuditFault::Judges(fault)) => Err(fault),
         }
     }
 
     /// The recording is read no further. What was read before is told, unless memory ran out.
-    fn stop(&mut self, fault: PcapFault) -> Result<bool, ReadFault>
+    fn stop(&mut self, fault: PcapFault) -> Result<bool, AttributionFault>
         ensures fault { OnOk result (self.new.notes.fault ≡ Some fault) }
         ensures notes { (s : Noticed) → AreNotesOf self.old.notes s → AreNotesOf self.new.notes s }
         ensures audit { self.new.audit ≡ self.old.audit }
@@ -205,10 +206,10 @@ impl Session {
         ensures over { result ≢ Ok true }
         ensures told { fault.kind ≢ Kind.Memory → result ≡ Ok false }
         ensures kept { self.new.kept ≡ self.old.kept }
-        ensures why { IfErr result IsMemoryFault }
+        ensures memory { result ≢ Err AttributionFault.TooMany }
     {
         if let FaultKind::Memory = fault.kind {
-            return Err(ReadFault::Memory);
+            return Err(AttributionFault::Memory);
         }
         self.notes.fault = Some(fault);
         Ok(false)
@@ -220,7 +221,7 @@ impl Session {
         alloc: Global,
         event: &mut Event,
         found: Option<Attributed>,
-    ) -> Result<bool, ReadFault>
+    ) -> Result<bool, AttributionFault>
         ensures none { (named : List ℕ) (history : List Step) (carried : List Carried) (s : Noticed) (step : Step)
             → found ≡ None → GivesNone event.old → IsOfEvent step history event.old
             → IsNoticedOf named history carried s → AreNotesOf self.old.notes s
@@ -262,7 +263,7 @@ impl Session {
             → IsCarriedBy event.old given carried c → a.place ≡ (framed_after named carried c).placed.place
             → AreTextsKept self.old.kept named carried → OnOk result (AreTextsKept self.new.kept named (c ∷ carried)) }
         ensures wanted { self.new.kept.wanted ≡ self.old.kept.wanted }
-        ensures why { IfErr result IsMemoryFault }
+        ensures memory { result ≢ Err AttributionFault.TooMany }
     {
         self.notes.lose(alloc, event.old())?;
         self.notes.lose_all(alloc, event.take_ousted(alloc))?;
@@ -276,7 +277,7 @@ impl Session {
         alloc: Global,
         event: &Event,
         found: Option<Attributed>,
-    ) -> Result<(), ReadFault>
+    ) -> Result<(), AttributionFault>
         ensures none { (named : List ℕ) (carried : List Carried) (s : Noticed)
             → found ≡ None → GivesNone event.now → s.last ≤ event.now.frame.number → AreNotesOf self.old.notes s
             → OnOk result ((fate : Became) × (t : Noticed) × IsFateOf event.now.frame.parts event.now.likeness event.now.brought.outcome event.now.is_discarded fate
@@ -312,7 +313,7 @@ impl Session {
             → IsCarriedBy event.now given carried c → a.place ≡ (framed_after named carried c).placed.place
             → AreTextsKept self.old.kept named carried → OnOk result (AreTextsKept self.new.kept named (c ∷ carried)) }
         ensures wanted { self.new.kept.wanted ≡ self.old.kept.wanted }
-        ensures why { IfErr result IsMemoryFault }
+        ensures memory { result ≢ Err AttributionFault.TooMany }
     {
         match event.fate() {
             Fate::Datagram(datagram) => self.pass(alloc, event, &datagram, found),
@@ -336,7 +337,7 @@ impl Session {
         event: &Event,
         datagram: &Datagram<'_>,
         found: Option<Attributed>,
-    ) -> Result<(), ReadFault>
+    ) -> Result<(), AttributionFault>
         requires sound { IsSound (record { source_port = datagram.now.source_port; target_port = datagram.now.target_port; payload = datagram.now.payload.now }) }
         ensures notes { (carried : List Carried) (s : Noticed) (c : Carried) (a : Found) → found ≡ Some a → IsCarriedBy event.now datagram.now carried c
             → s.last < event.now.frame.number → AreNotesOf self.old.notes s → OnOk result (AreNotesOf self.new.notes (placing a.place event.now c s)) }
@@ -362,7 +363,7 @@ impl Session {
             → a.place ≡ (framed_after named carried c).placed.place
             → AreTextsKept self.old.kept named carried → OnOk result (AreTextsKept self.new.kept named (c ∷ carried)) }
         ensures wanted { self.new.kept.wanted ≡ self.old.kept.wanted }
-        ensures why { IfErr result IsMemoryFault }
+        ensures memory { result ≢ Err AttributionFault.TooMany }
     {
         let Some(found) = found else {
             return Ok(());
@@ -564,18 +565,6 @@ fn is_wrong(checksum: Checksum) -> bool
     match checksum {
         Checksum::Wrong => true,
         Checksum::Right | Checksum::Partial | Checksum::Absent => false,
-    }
-}
-
-/// The judges take no datagram any more.
-fn refuse(fault: AttributionFault) -> Result<bool, ReadFault>
-    ensures refuses { IsErr result }
-    ensures why { result ≢ Err ReadFault.TooMany → IfErr result IsMemoryFault }
-    ensures many { result ≡ Err ReadFault.TooMany → fault ≡ AttributionFault.TooMany }
-{
-    match fault {
-        AttributionFault::Memory => Err(ReadFault::Memory),
-        AttributionFault::TooMany => Err(ReadFault::TooMany),
     }
 }
 

@@ -17,5 +17,8 @@ returns-clause-listed g c =
     subst (λ (n : Notes). IsRecordingListed g.W.Write.contents (record c.args.lister.now { told = 0 }) c.list_to_end-listed.new.lister (g.R.Read.remaining c.args.reader) c.args.services.now n) (sym c.into_notes-notes.ensures)
     (c.in_ok-listed.ensures.listed c.args.services.now c.in_ok-session.ensures.stands refl)
 
+pub returns-in_err-session-clause-why : goal.returns-in_err-session-clause-why
+returns-in_err-session-clause-why g c = same_fault c.from_residual.result _ _ c.from_residual.ensures.1 (c.in_err-session.ensures.why (g.R.Read.remaining c.args.reader))
+
 pub returns-in_err-listed-clause-why : goal.returns-in_err-listed-clause-why
 returns-in_err-listed-clause-why g c = same_fault c.from_residual-in_err-listed.result _ _ c.from_residual-in_err-listed.ensures.1 (c.in_err-listed.ensures.why c.args.services.now c.in_ok-session.ensures.stands refl)

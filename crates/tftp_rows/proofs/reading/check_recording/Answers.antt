@@ -43,6 +43,9 @@ returns-clause-told g c none =
     (subst (λ (b : Teller g.row.W.Denot). IsRecordingTold g.W.Write.contents b now file c.in_ok-session.session.audit.judge.judging services c.tell_recording-told.new.session.notes) c.begin.ensures
     (c.in_ok-told.ensures.told services c.in_ok-session.ensures.stands held told)))
 
+pub returns-in_err-session-clause-why : goal.returns-in_err-session-clause-why
+returns-in_err-session-clause-why g c none = same_fault c.from_residual.result _ _ c.from_residual.ensures.1 (c.in_err-session.ensures.why (g.R.Read.remaining c.args.reader))
+
 pub returns-in_err-told-clause-why : goal.returns-in_err-told-clause-why
 returns-in_err-told-clause-why g c none =
     let held = ap {A = Teller g.row.W.Denot} (λ t. t.held.items) c.begin.ensures ∙ none in

@@ -1,8 +1,7 @@
 use Rattle.std.proofs.Common.{rules, ap, ◌∷◌, ◌+◌, ◌∙◌, refl, subst, sym, Ok}
 use Rattle.audit_recording.specs.Session.Kept.{IsSessionAfter}
-use Rattle.audit_recording.specs.Session.Opened.{HasRead, left_of, may_lose_in}
+use Rattle.audit_recording.specs.Session.Opened.{HasRead, IsKnownOf, left_of, may_lose_in}
 use Rattle.tftp_rows.specs.Whole.{IsReadOn, numbers_of}
-use Rattle.audit_recording.proofs.SessionLemmas.Faults.{reading_fault}
 use Rattle.tftp_rows.proofs.FaultLemmas.{same_fault}
 use Rattle.tftp_rows.proofs.ReadingLemmas.{frame_came, many_frames, none_came, one_frame_more, read_end, read_one, stops_telling, stops_there, told_over_for}
 use Rattle.tftp_rows.proofs.TellingLemmas.{on_err}
@@ -44,8 +43,8 @@ loop-turn-preserved g c = record {
 pub returns-in_err-next-clause-part : goal.returns-in_err-next-clause-part
 returns-in_err-next-clause-part g c begun file named was =
     on_err c.from_residual.result
-    (stops_there g.W.Write.contents (may_lose_in c.args.opened.now) begun c.loop-turn.teller file (left_of g.R.Read.remaining c.loop-turn.opened) c.loop-turn.opened.recording c.loop-turn.session c.args.session.now.audit.judge.judging named (c.loop-turn.invariant.told begun file named was).0 c.loop-turn.invariant.judging
-    (λ bytes quiet none. quiet (c.loop-turn.invariant.stays ∙ none)))
+    (stops_there g.W.Write.contents (may_lose_in c.args.opened.now) {Q = IsKnownOf c.loop-turn.opened} begun c.loop-turn.teller file (left_of g.R.Read.remaining c.loop-turn.opened) c.loop-turn.opened.recording c.loop-turn.session c.args.session.now.audit.judge.judging named (c.loop-turn.invariant.told begun file named was).0 c.loop-turn.invariant.judging
+    (λ bytes frames both none. both.0 (c.loop-turn.invariant.stays ∙ none)))
 
 pub returns-in_err-tell_over-clause-part : goal.returns-in_err-tell_over-clause-part
 returns-in_err-tell_over-clause-part g c begun file named was =
@@ -54,24 +53,23 @@ returns-in_err-tell_over-clause-part g c begun file named was =
     (c.in_ok-next.ensures.goes_on named (numbers_of so.3) so.0 so.1 so.2 file so.4.read so.4.session_is) in
     let one = read_one g.W.Write.contents (may_lose_in c.args.opened.now) begun c.loop-turn.teller (HasRead g.R.Read.remaining file c.loop-turn.opened) (HasRead g.R.Read.remaining file c.next.new.self) c.loop-turn.session c.next.new.session named came.0 so.0 so.1 came.1 so.2 came.2 so.3 so.4 c.in_ok-next.ensures.judging came.3 came.4 in
     on_err c.from_residual-in_err-tell_over.result
-    (stops_telling g.W.Write.contents (may_lose_in c.args.opened.now) begun c.loop-turn.teller c.tell_over.new.self c.next.new.session.notes.may_lose file (left_of g.R.Read.remaining c.next.new.self) c.next.new.self.recording c.next.new.session c.args.session.now.audit.judge.judging named (came.0 ∷ so.0) came.1 came.2 so.3 one
+    (stops_telling g.W.Write.contents (may_lose_in c.args.opened.now) {Q = IsKnownOf c.next.new.self} begun c.loop-turn.teller c.tell_over.new.self c.next.new.session.notes.may_lose file (left_of g.R.Read.remaining c.next.new.self) c.next.new.self.recording c.next.new.session c.args.session.now.audit.judge.judging named (came.0 ∷ so.0) came.1 came.2 so.3 one
     (c.in_ok-next.ensures.judging ∙ c.loop-turn.invariant.judging)
     (c.in_ok-next.ensures.may_lose ∙ (c.in_ok-next.ensures.stays ∙ c.loop-turn.invariant.stays))
     (c.in_err-tell_over.ensures.part named (numbers_of so.3) (came.0 ∷ so.0) came.1 came.2 one.session_is)
-    (λ bytes quiet none. quiet (c.in_ok-next.ensures.stays ∙ (c.loop-turn.invariant.stays ∙ none))))
+    (λ bytes frames both none. both.0 (c.in_ok-next.ensures.stays ∙ (c.loop-turn.invariant.stays ∙ none))))
 
 pub returns-clause-part : goal.returns-clause-part
 returns-clause-part g c begun file named was =
-    stops_there g.W.Write.contents (may_lose_in c.args.opened.now) begun c.loop-turn.teller file (left_of g.R.Read.remaining c.loop-turn.opened) c.loop-turn.opened.recording c.loop-turn.session c.args.session.now.audit.judge.judging named (c.loop-turn.invariant.told begun file named was).0 c.loop-turn.invariant.judging
-    (λ bytes quiet none. quiet (c.loop-turn.invariant.stays ∙ none))
+    stops_there g.W.Write.contents (may_lose_in c.args.opened.now) {Q = IsKnownOf c.loop-turn.opened} begun c.loop-turn.teller file (left_of g.R.Read.remaining c.loop-turn.opened) c.loop-turn.opened.recording c.loop-turn.session c.args.session.now.audit.judge.judging named (c.loop-turn.invariant.told begun file named was).0 c.loop-turn.invariant.judging
+    (λ bytes frames both none. both.0 (c.loop-turn.invariant.stays ∙ none))
 
 pub returns-clause-why : goal.returns-clause-why
 returns-clause-why g c begun file named was =
     let told = c.loop-turn.invariant.told begun file named was in
-    many_frames file (left_of g.R.Read.remaining c.loop-turn.opened) c.loop-turn.opened.recording told.0.0 c.loop-turn._turn told.0.4.read told.1 (search rules)
+    many_frames (IsKnownOf c.loop-turn.opened) file (left_of g.R.Read.remaining c.loop-turn.opened) c.loop-turn.opened.recording told.0.0 c.loop-turn._turn told.0.4.read told.1 (search rules)
 
 pub returns-in_err-next-clause-why : goal.returns-in_err-next-clause-why
 returns-in_err-next-clause-why g c begun file named was =
     let so = (c.loop-turn.invariant.told begun file named was).0 in
-    same_fault c.from_residual.result _ _ c.from_residual.ensures.1
-    (reading_fault file _ c.in_err-next.ensures.why (c.in_err-next.ensures.many named (numbers_of so.3) so.0 so.1 so.2 file so.4.read so.4.session_is))
+    same_fault c.from_residual.result _ _ c.from_residual.ensures.1 (c.in_err-next.ensures.why named (numbers_of so.3) so.0 so.1 so.2 file so.4.read so.4.session_is)

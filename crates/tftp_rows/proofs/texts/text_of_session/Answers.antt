@@ -2,7 +2,6 @@ use Rattle.std.proofs.Common.{◌∙◌, refl}
 use Rattle.std.specs.Io.KnownBytes.{Appends}
 use Rattle.audit_recording.specs.Session.Noted.{frames_in, giving_up}
 use Rattle.audit_recording.specs.Session.Texts.{text_of}
-use Rattle.audit_recording.proofs.SessionLemmas.Faults.{read_fault}
 use Rattle.tftp_rows.specs.Remarks.{SaysPart}
 use Rattle.tftp_rows.specs.Texts.{IsNoted}
 use Rattle.tftp_rows.proofs.TextsLemmas.{fresh_again, fresh_wrote, notes_stop, read_by, text_by, text_stops, wanted_one}
@@ -76,4 +75,4 @@ returns g c new wanted fresh =
 pub returns-in_err-read_whole : goal.returns-in_err-read_whole
 returns-in_err-read_whole g c new wanted fresh =
     text_stops g.W.Write.contents g.E.Write.contents c.args.of.now c.args.remarks.now c.args.remarks.now c.args.writer.now c.args.writer.now (g.R.Read.remaining c.args.reader) c.args.number c.from_residual.result _ c.from_residual.ensures.1
-    (refl, refl, read_fault (g.R.Read.remaining c.args.reader) _ c.in_err-read_whole.ensures.why (c.in_err-read_whole.ensures.many c.args.of.now.services.now new))
+    (refl, refl, c.in_err-read_whole.ensures.why c.args.of.now.services.now new)

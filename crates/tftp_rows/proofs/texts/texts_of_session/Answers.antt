@@ -3,11 +3,21 @@ use Rattle.std.specs.Io.KnownBytes.{Appends}
 use Rattle.audit_recording.specs.Blame.Frames.{whole_of}
 use Rattle.audit_recording.specs.Session.Noted.{frames_in, giving_up}
 use Rattle.audit_recording.specs.Session.Texts.{opened_count}
-use Rattle.audit_recording.proofs.SessionLemmas.Faults.{read_fault}
 use Rattle.tftp_rows.specs.Remarks.{SaysPart, remarks_text, rest_lines}
-use Rattle.tftp_rows.proofs.EachTextLemmas.{all_numbered, each_after, rest_stops, texts_by, texts_stop}
+use Rattle.tftp_rows.proofs.EachTextLemmas.{all_numbered, each_after, none_told, rest_stops, texts_by, texts_stop}
+use Rattle.tftp_rows.proofs.RemarksLemmas.{says_nothing}
 use Rattle.tftp_rows.proofs.TextsLemmas.{read_by}
 use Rattle.tftp_rows.proofs.texts.texts_of_session.Goals as goal
+
+pub returns-in_err-keys : goal.returns-in_err-keys
+returns-in_err-keys g c new wanted fresh =
+    let file = g.R.Read.remaining c.args.reader in
+    let session = c.read_whole.new.session in
+    let named = c.args.of.now.services.now in
+    let whole = c.in_ok-read_whole.ensures.read named new in
+    texts_stop g.W.Write.contents g.E.Write.contents c.args.of.now c.args.remarks.now c.args.remarks.now c.args.writer.now c.args.writer.now file c.from_residual-in_err-keys.result _ c.from_residual-in_err-keys.ensures.1
+    (none_told g.W.Write.contents g.E.Write.contents c.args.of.now c.args.remarks.now c.args.remarks.now c.args.writer.now c.args.writer.now file session.notes (read_by file session named whole) _ refl
+    (says_nothing (g.E.Write.contents c.args.remarks.now.errors.0) _))
 
 pub returns-in_err-tell_rest : goal.returns-in_err-tell_rest
 returns-in_err-tell_rest g c new wanted fresh =
@@ -41,4 +51,4 @@ returns g c new wanted fresh =
 pub returns-in_err-read_whole : goal.returns-in_err-read_whole
 returns-in_err-read_whole g c new wanted fresh =
     texts_stop g.W.Write.contents g.E.Write.contents c.args.of.now c.args.remarks.now c.args.remarks.now c.args.writer.now c.args.writer.now (g.R.Read.remaining c.args.reader) c.from_residual.result _ c.from_residual.ensures.1
-    (refl, refl, read_fault (g.R.Read.remaining c.args.reader) _ c.in_err-read_whole.ensures.why (c.in_err-read_whole.ensures.many c.args.of.now.services.now new))
+    (refl, refl, c.in_err-read_whole.ensures.why c.args.of.now.services.now new)

@@ -1,7 +1,7 @@
 use Rattle.std.proofs.Common.{rules, ap, refl, Ok, ◌∙◌}
-use Rattle.audit_recording.specs.Session.Opened.{HasRead, IsMemoryFault, left_of}
+use Rattle.audit_recording.specs.Session.Opened.{HasRead, IsKnownOf, IsReadFaultOf, left_of}
 use Rattle.audit_recording.proofs.SessionLemmas.Reading.{frame_on_for, many_read, none_on}
-use Rattle.audit_recording.proofs.SessionLemmas.Faults.{other_fault, same_error}
+use Rattle.audit_recording.proofs.SessionLemmas.Faults.{same_fault}
 use Rattle.audit_recording.proofs.session.opened.read_frames.Goals as goal
 
 pub loop-turn-init : goal.loop-turn-init
@@ -30,16 +30,10 @@ loop-turn-preserved g c = record {
 }
 
 pub returns-in_err-next-clause-why : goal.returns-in_err-next-clause-why
-returns-in_err-next-clause-why g c other = other_fault c.from_residual.result _ _ IsMemoryFault c.from_residual.ensures.1 c.in_err-next.ensures.why other
-
-pub returns-in_err-next-clause-many : goal.returns-in_err-next-clause-many
-returns-in_err-next-clause-many g c file named was many =
+returns-in_err-next-clause-why g c file named was =
     let so = (c.loop-turn.invariant.read file named was).0 in
-    c.in_err-next.ensures.many named _ so.history so.carried so.noticed file so.read so.is (same_error c.from_residual.result _ _ c.from_residual.ensures.1 many)
+    same_fault c.from_residual.result _ (IsReadFaultOf file) c.from_residual.ensures.1 (c.in_err-next.ensures.why named _ so.history so.carried so.noticed file so.read so.is)
 
 pub returns-clause-why : goal.returns-clause-why
-returns-clause-why g c other = absurd (other refl)
-
-pub returns-clause-many : goal.returns-clause-many
-returns-clause-many g c file named was many =
-    many_read file (left_of g.R.Read.remaining c.loop-turn.opened) c.loop-turn.opened.recording c.loop-turn.session named c.loop-turn._turn (c.loop-turn.invariant.read file named was) (search rules)
+returns-clause-why g c file named was =
+    many_read {Q = IsKnownOf c.loop-turn.opened} file (left_of g.R.Read.remaining c.loop-turn.opened) c.loop-turn.opened.recording c.loop-turn.session named c.loop-turn._turn (c.loop-turn.invariant.read file named was) (search rules)

@@ -1,4 +1,4 @@
-use Rattle.std.proofs.Common.{[], sym, ◌∙◌}
+use Rattle.std.proofs.Common.{[], refl, sym, ◌∙◌}
 use Rattle.net_udp.proofs.RecordingLemmas.Lossless.{begins_lossless}
 use Rattle.audit_recording.proofs.session.opened.Opened.begin.Goals as goal
 
@@ -8,7 +8,7 @@ returns-in-Ok-clause-begun g c =
       read.0,
       rw c.new.ensures.inner at (rw c.new-reader.ensures at read.1),
       read.2,
-      λ quiet. begins_lossless c.in-Ok.recording read.0 [] read.2 (sym c.may_lose.ensures ∙ quiet),
+      (λ quiet. begins_lossless c.in-Ok.recording read.0 [] read.2 (sym c.may_lose.ensures ∙ quiet), refl),
     )
 
 pub returns-in-Err-clause-why : goal.returns-in-Err-clause-why

@@ -1,12 +1,12 @@
 use Rattle.std.proofs.Common.{refl, subst}
 use Rattle.audit_recording.specs.Session.Noted.{AreNotesOf, frames_in, giving_up}
-use Rattle.audit_recording.proofs.SessionLemmas.Opened.{ok_as}
+use Rattle.audit_recording.specs.Session.Opened.{left_of}
+use Rattle.audit_recording.proofs.SessionLemmas.Faults.{refused_behind}
 use Rattle.audit_recording.proofs.session.opened.Opened.close.Goals as goal
 
-pub returns-clause-closed : goal.returns-clause-closed
-returns-clause-closed g c named out history carried s is =
-    ok_as c.lose_all-closed.result
-    (λ noted.
+pub returns-in-Ok-clause-closed : goal.returns-in-Ok-clause-closed
+returns-in-Ok-clause-closed g c named out history carried s is =
+    let noted = c.in-Ok.ensures.stands s is.kept.notes in
     let kept = subst (λ waiting. AreNotesOf c.lose_all-closed.new.self (giving_up (frames_in waiting) s)) c.into_waiting.ensures noted in
     record {
       noticed = is.noticed;
@@ -20,5 +20,7 @@ returns-clause-closed g c named out history carried s is =
       };
       may_lose = refl;
       dropped = c.lost-dropped.ensures;
-    })
-    (c.lose_all-closed.ensures.stands s is.kept.notes)
+    }
+
+pub returns-clause-why : goal.returns-clause-why
+returns-clause-why g c file history read = refused_behind file history c.args.self.frames (c.args.self.recording, read.0, left_of g.R.Read.remaining c.args.self, read.1, read.2) read.3.1

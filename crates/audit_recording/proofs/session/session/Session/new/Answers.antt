@@ -14,9 +14,9 @@ returns-clause-stands c =
     record {
       noticed = (refl, refl);
       kept = record {
-        audit = c.in_ok-new.ensures.stands;
+        audit = c.in-Ok.ensures.stands;
         notes = c.new-5.ensures.stands;
-        trails = λ n. subst (λ (es : List (ℕ × Trail)). IsTrailKept c.in_ok-new.field-0.judge.judging named [] (whole_of named []) [] n (lookup (is_at (nat_cmp n)) es))
+        trails = λ n. subst (λ (es : List (ℕ × Trail)). IsTrailKept c.in-Ok.audit.judge.judging named [] (whole_of named []) [] n (lookup (is_at (nat_cmp n)) es))
             (sym c.new-2.ensures.empty) (inl refl);
         texts = c.anew.ensures.texts named;
         beside = record {

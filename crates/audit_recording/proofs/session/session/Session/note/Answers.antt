@@ -5,7 +5,7 @@ use Rattle.audit_recording.specs.Session.Noted.{Noticed, finding, going, may_be_
 use Rattle.audit_recording.specs.Session.Recording.{gone_by, reached_by}
 use Rattle.audit_recording.proofs.SessionLemmas.Marking.{leaves_beside}
 use Rattle.audit_recording.proofs.SessionLemmas.Recording.{carried_same, given_once, left_told, not_discarded, not_left, not_waiting, reached_is, waits_told}
-use Rattle.audit_recording.proofs.SessionLemmas.Faults.{same_fault}
+use Rattle.audit_recording.proofs.SessionLemmas.Faults.{not_many}
 use Rattle.audit_recording.proofs.session.session.Session.note.Goals as goal
 
 pub returns-in-Datagram-clause-none : goal.returns-in-Datagram-clause-none
@@ -92,14 +92,14 @@ pub returns-in_ok-discard-in-Discarded-clause-texts : goal.returns-in_ok-discard
 returns-in_ok-discard-in-Discarded-clause-texts c named carried x a given is came carries at kept =
     absurd (not_discarded c.args.event.now given c.in-Discarded.datagram came c.in-Discarded.ensures.is)
 
-pub returns-in_err-leave-in-Left-clause-why : goal.returns-in_err-leave-in-Left-clause-why
-returns-in_err-leave-in-Left-clause-why c = same_fault c.from_residual.result _ _ c.from_residual.ensures.1 tt
+pub returns-in_err-leave-in-Left-clause-memory : goal.returns-in_err-leave-in-Left-clause-memory
+returns-in_err-leave-in-Left-clause-memory c many = not_many c.from_residual.result c.from_residual.ensures.1 many
 
-pub returns-in_err-wait-in-Waits-clause-why : goal.returns-in_err-wait-in-Waits-clause-why
-returns-in_err-wait-in-Waits-clause-why c = same_fault c.from_residual-in_err-wait-in-Waits.result _ _ c.from_residual-in_err-wait-in-Waits.ensures.1 tt
+pub returns-in_err-wait-in-Waits-clause-memory : goal.returns-in_err-wait-in-Waits-clause-memory
+returns-in_err-wait-in-Waits-clause-memory c many = not_many c.from_residual-in_err-wait-in-Waits.result c.from_residual-in_err-wait-in-Waits.ensures.1 many
 
-pub returns-in_err-discard-in-Discarded-clause-why : goal.returns-in_err-discard-in-Discarded-clause-why
-returns-in_err-discard-in-Discarded-clause-why c = same_fault c.from_residual-in_err-discard-in-Discarded.result _ _ c.from_residual-in_err-discard-in-Discarded.ensures.1 tt
+pub returns-in_err-discard-in-Discarded-clause-memory : goal.returns-in_err-discard-in-Discarded-clause-memory
+returns-in_err-discard-in-Discarded-clause-memory c many = not_many c.from_residual-in_err-discard-in-Discarded.result c.from_residual-in_err-discard-in-Discarded.ensures.1 many
 
 pub returns-in-Datagram-clause-marks : goal.returns-in-Datagram-clause-marks
 returns-in-Datagram-clause-marks c named out history carried s x a given is came carries at handed audit trails_kept later are gone kept =

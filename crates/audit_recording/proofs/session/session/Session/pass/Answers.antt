@@ -17,7 +17,7 @@ use Rattle.audit_recording.specs.declared.blame.passing.Passing.{Passing}
 use Rattle.audit_recording.specs.declared.session.kept.Kept.{Kept}
 use Rattle.audit_recording.proofs.SessionLemmas.Marking.{asking_times, notes_marked}
 use Rattle.audit_recording.proofs.SessionLemmas.Recording.{reached_is}
-use Rattle.audit_recording.proofs.SessionLemmas.Faults.{same_fault}
+use Rattle.audit_recording.proofs.SessionLemmas.Faults.{not_many}
 use Rattle.audit_recording.proofs.session.session.Session.pass.Goals as goal
 
 pub returns-clause-notes : goal.returns-clause-notes
@@ -113,20 +113,20 @@ returns-clause-texts c named carried d a is carries at kept =
     let noted = c.in_ok-note.ensures.texts named d carried is_fed passes kept in
     subst (λ (k : Kept). AreTextsKept k named (d ∷ carried)) (sym c.follow.ensures.kept) noted
 
-pub returns-in_err-find-clause-why : goal.returns-in_err-find-clause-why
-returns-in_err-find-clause-why c = same_fault c.from_residual.result _ _ c.from_residual.ensures.1 tt
+pub returns-in_err-find-clause-memory : goal.returns-in_err-find-clause-memory
+returns-in_err-find-clause-memory c many = not_many c.from_residual.result c.from_residual.ensures.1 many
 
-pub returns-in_err-pass-clause-why : goal.returns-in_err-pass-clause-why
-returns-in_err-pass-clause-why c = same_fault c.from_residual-in_err-pass.result _ _ c.from_residual-in_err-pass.ensures.1 tt
+pub returns-in_err-pass-clause-memory : goal.returns-in_err-pass-clause-memory
+returns-in_err-pass-clause-memory c many = not_many c.from_residual-in_err-pass.result c.from_residual-in_err-pass.ensures.1 many
 
-pub returns-in_err-ask-clause-why : goal.returns-in_err-ask-clause-why
-returns-in_err-ask-clause-why c = same_fault c.from_residual-in_err-ask.result _ _ c.from_residual-in_err-ask.ensures.1 tt
+pub returns-in_err-ask-clause-memory : goal.returns-in_err-ask-clause-memory
+returns-in_err-ask-clause-memory c many = not_many c.from_residual-in_err-ask.result c.from_residual-in_err-ask.ensures.1 many
 
-pub returns-in_err-note-clause-why : goal.returns-in_err-note-clause-why
-returns-in_err-note-clause-why c = same_fault c.from_residual-in_err-note.result _ _ c.from_residual-in_err-note.ensures.1 tt
+pub returns-in_err-note-clause-memory : goal.returns-in_err-note-clause-memory
+returns-in_err-note-clause-memory c many = not_many c.from_residual-in_err-note.result c.from_residual-in_err-note.ensures.1 many
 
-pub returns-in_err-follow-clause-why : goal.returns-in_err-follow-clause-why
-returns-in_err-follow-clause-why c = same_fault c.from_residual-in_err-follow.result _ _ c.from_residual-in_err-follow.ensures.1 tt
+pub returns-in_err-follow-clause-memory : goal.returns-in_err-follow-clause-memory
+returns-in_err-follow-clause-memory c many = not_many c.from_residual-in_err-follow.result c.from_residual-in_err-follow.ensures.1 many
 
 pub returns-clause-marks : goal.returns-clause-marks
 returns-clause-marks c named out history carried s d a is carries at handed audit trails_kept later are gone kept =

@@ -19,8 +19,7 @@ use Rattle.audit_recording.specs.declared.session.kept.Kept.{Kept as KeptTexts}
 use Rattle.audit_recording.specs.declared.session.unplaced.Unplaced.{Unplaced}
 use Rattle.audit_recording.specs.declared.audit.next.AuditFault.TheVariants.{Judges}
 use Rattle.audit_recording.proofs.AuditLemmas.Counted.{many_frames}
-use Rattle.audit_recording.proofs.SessionLemmas.Faults.{not_many}
-use Rattle.audit_recording.proofs.SessionLemmas.Recording.{always, carry, errs_so, gives_none, is_carried, reads_on, stops_so}
+use Rattle.audit_recording.proofs.SessionLemmas.Recording.{always, carry, gives_none, is_carried, reads_on, stops_so}
 use Rattle.audit_recording.proofs.SessionLemmas.Heard.{frame_of}
 use Rattle.audit_recording.proofs.SessionLemmas.Trails.{always_err, on_ok_both, told_too}
 use Rattle.audit_recording.proofs.session.session.Session.read.Goals as goal
@@ -176,10 +175,7 @@ returns-in-Err-Judges-clause-goes_on g c named out bytes history carried s stand
     let read = c.in-Err-Judges.ensures.continues named out bytes history (datagrams_of carried) stands is.kept.audit in (
       read.0,
       read.1,
-      errs_so
-          (λ frames datagrams noticed. StandsFor c.next_into.new.recording (bytes ++ read.0) frames
-          × (IsReadAfter (record c.args.self.now { audit = c.next_into.new.self }) named out frames datagrams noticed × AddsFrame history carried c.next_into.new.event frames datagrams))
-          history carried s c.refuse.result c.refuse.ensures.refuses,
+      tt,
     )
 
 pub returns-in-Ok-Nothing-clause-wants : goal.returns-in-Ok-Nothing-clause-wants
@@ -202,7 +198,7 @@ returns-in-Err-Recording-clause-wants g c named out bytes history carried s stan
     always_err c.stop.result (inr (history, carried, inl refl, subst (λ (a : RecordingAudit). AuditsAfter a named out history (datagrams_of carried)) (sym c.stop.ensures.audit) goes.1))
 
 pub returns-in-Err-Judges-clause-wants : goal.returns-in-Err-Judges-clause-wants
-returns-in-Err-Judges-clause-wants g c named out bytes history carried s stands is = always_err c.refuse.result (inl (c.in-Err-Judges.ensures.fails c.in-Err-Judges.fault (ap Err c.in-Err-Judges.field-0-is)))
+returns-in-Err-Judges-clause-wants g c named out bytes history carried s stands is = inl (c.in-Err-Judges.ensures.fails c.in-Err-Judges.fault (ap Err c.in-Err-Judges.field-0-is))
 
 pub returns-in-Ok-End-clause-at_end : goal.returns-in-Ok-End-clause-at_end
 returns-in-Ok-End-clause-at_end g c began is over = c.in-Ok-End.ensures.at_end began (ap Ok c.in-Ok-End.field-0-is)
@@ -219,16 +215,16 @@ pub returns-in-Ok-Datagram-clause-goes : goal.returns-in-Ok-Datagram-clause-goes
 returns-in-Ok-Datagram-clause-goes g c goes = c.in-Ok-Datagram.ensures.goes (Datagram c.in-Ok-Datagram.found) (ap Ok c.in-Ok-Datagram.field-0-is) (λ e. absurd (cc))
 
 pub returns-in-Ok-Nothing-clause-many : goal.returns-in-Ok-Nothing-clause-many
-returns-in-Ok-Nothing-clause-many g c named out history carried s is many = absurd (not_many c.take.result c.take.ensures.why many)
+returns-in-Ok-Nothing-clause-many g c named out history carried s is many = absurd (c.take.ensures.memory many)
 
 pub returns-in-Ok-Datagram-clause-many : goal.returns-in-Ok-Datagram-clause-many
-returns-in-Ok-Datagram-clause-many g c named out history carried s is many = absurd (not_many c.take-in-Ok-Datagram.result c.take-in-Ok-Datagram.ensures.why many)
+returns-in-Ok-Datagram-clause-many g c named out history carried s is many = absurd (c.take-in-Ok-Datagram.ensures.memory many)
 
 pub returns-in-Err-Recording-clause-many : goal.returns-in-Err-Recording-clause-many
-returns-in-Err-Recording-clause-many g c named out history carried s is many = absurd (not_many c.stop.result c.stop.ensures.why many)
+returns-in-Err-Recording-clause-many g c named out history carried s is many = absurd (c.stop.ensures.memory many)
 
 pub returns-in-Err-Judges-clause-many : goal.returns-in-Err-Judges-clause-many
 returns-in-Err-Judges-clause-many g c named out history carried s is many =
-    let told : c.in-Err-Judges.fault ≡ AttributionFault.TooMany = rw c.in-Err-Judges.field-0-is at (c.refuse.ensures.many many) in
+    let told : c.in-Err-Judges.fault ≡ AttributionFault.TooMany = cc in
     many_frames history (datagrams_of carried) is.kept.audit.frames
     (c.in-Err-Judges.ensures.many named out history (datagrams_of carried) is.kept.audit (ap Err (c.in-Err-Judges.field-0-is ∙ ap Judges told)))

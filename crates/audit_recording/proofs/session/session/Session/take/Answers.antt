@@ -12,7 +12,7 @@ use Rattle.audit_recording.specs.Session.Texts.{AreTextsKept}
 use Rattle.audit_recording.specs.Session.Trails.{AreTrailsKept}
 use Rattle.audit_recording.proofs.SessionLemmas.Marking.{gone_is, placing_beside}
 use Rattle.audit_recording.proofs.SessionLemmas.Recording.{adds_bare, bare, carried_bare, last_up_to}
-use Rattle.audit_recording.proofs.SessionLemmas.Faults.{same_fault}
+use Rattle.audit_recording.proofs.SessionLemmas.Faults.{not_many, same_error}
 use Rattle.audit_recording.proofs.session.session.Session.take.Goals as goal
 
 pub returns-clause-none : goal.returns-clause-none
@@ -120,11 +120,11 @@ returns-clause-texts c named carried x a given is came carries at kept =
     → AreTextsKept c.note.new.self.kept named (x ∷ carried))
     same (λ came_so carries_so. c.in_ok-note.ensures.texts named carried x a given is came_so carries_so at kept) came (carried_bare event given carried x carries)
 
-pub returns-in_err-lose-clause-why : goal.returns-in_err-lose-clause-why
-returns-in_err-lose-clause-why c = same_fault c.from_residual.result _ _ c.from_residual.ensures.1 tt
+pub returns-in_err-lose-clause-memory : goal.returns-in_err-lose-clause-memory
+returns-in_err-lose-clause-memory c many = not_many c.from_residual.result c.from_residual.ensures.1 many
 
-pub returns-in_err-lose_all-clause-why : goal.returns-in_err-lose_all-clause-why
-returns-in_err-lose_all-clause-why c = same_fault c.from_residual-in_err-lose_all.result _ _ c.from_residual-in_err-lose_all.ensures.1 tt
+pub returns-in_err-lose_all-clause-memory : goal.returns-in_err-lose_all-clause-memory
+returns-in_err-lose_all-clause-memory c many = not_many c.from_residual-in_err-lose_all.result c.from_residual-in_err-lose_all.ensures.1 many
 
-pub returns-in_err-note-clause-why : goal.returns-in_err-note-clause-why
-returns-in_err-note-clause-why c = same_fault c.from_residual-in_err-note.result _ _ c.from_residual-in_err-note.ensures.1 c.in_err-note.ensures.why
+pub returns-in_err-note-clause-memory : goal.returns-in_err-note-clause-memory
+returns-in_err-note-clause-memory c many = c.in_err-note.ensures.memory (same_error c.from_residual-in_err-note.result _ _ c.from_residual-in_err-note.ensures.1 many)
